@@ -1,0 +1,6 @@
+pub mod Cursors
+pub mod Forms
+pub mod Refusals
+pub mod Replies
+pub mod Sessions
+pub mod Octets

@@ -1,0 +1,4 @@
+pub mod Misfits
+pub mod Parts
+pub mod Marks
+pub mod Octets

@@ -1,0 +1,10 @@
+pub mod Numbers
+pub mod Directions
+pub mod Headers
+pub mod Refusals
+pub mod Beginnings
+pub mod Writing
+pub mod Frames
+pub mod Packets
+pub mod Flags
+pub mod Written

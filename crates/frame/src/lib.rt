@@ -1,0 +1,42 @@
+//! Frames of the reliable link: numbers, BDU headers, packets cut into BDUs, the four frames read and written.
+pub use bdu::Bdu;
+pub use cut::part;
+pub use cutting::Cutting;
+pub use direction::Direction;
+pub use direction::Downlink;
+pub use direction::DownlinkDirection;
+pub use direction::Uplink;
+pub use direction::UplinkDirection;
+pub use fault::FrameFault;
+pub use fault::Layer;
+pub use fault::Refusal;
+pub use flags::Flags;
+pub use header::BduHeader;
+pub use kind::Kind;
+pub use kind::Way;
+pub use logon::LogOn;
+pub use number::DownlinkNumber;
+pub use number::DownlinkNumbers;
+pub use number::FrameNumber;
+pub use number::Number;
+pub use number::UplinkNumber;
+pub use number::UplinkNumbers;
+pub use reader::Frame;
+pub use reader::read;
+pub use writer::write_data;
+pub use writer::write_report;
+
+mod bdu;
+mod cut;
+mod cutting;
+mod direction;
+mod fault;
+mod flags;
+mod header;
+mod kind;
+mod logon;
+mod number;
+mod reader;
+#[cfg(test)]
+mod tests;
+mod writer;

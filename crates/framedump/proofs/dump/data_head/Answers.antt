@@ -1,0 +1,13 @@
+use mathlib.Core.Path.{_≡_, subst}
+use mathlib.Core.List.{List}
+use Prim.Native.Nat.{ℕ}
+use Rattle.std.specs.Of.String.{string-bytes}
+use Rattle.std.specs.Vec.{made}
+use Rattle.framedump.proofs.Texts.{data-head-is}
+use Rattle.framedump.proofs.dump.data_head.Needs as need
+
+pub returns : need.returns
+returns c =
+    subst (λ (t : List ℕ). made (c .format .result) (λ s. string-bytes s ≡ t))
+    (data-head-is (c .args .number) (c .way-word-way .result .now) (c .octet-of-octet .result) (c .args .aircraft) (c .args .log-on) (c .way-word-way .ensures) (c .octet-of-octet .ensures))
+    (c .format .ensures .made)
