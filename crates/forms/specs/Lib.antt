@@ -4,3 +4,4 @@ pub mod Refusals
 pub mod Replies
 pub mod Sessions
 pub mod Octets
+pub mod Lines

@@ -25,7 +25,8 @@ fn shared_front(text: &[u8], word: &[u8]) -> usize
     ensures in_text { λ r. ⌜ r ≤ length (now (text .entry)) ⌝ }
     ensures in_word { λ r. ⌜ r ≤ length (now (word .entry)) ⌝ }
     ensures same { λ r. ⌜ take r (now (text .entry)) ≡ take r (now (word .entry)) ⌝ }
-    ensures here { λ r. ⌜ (r < length (now (text .entry)) → r < length (now (word .entry)) → getD (now (text .entry)) r 0 ≡ getD (now (word .entry)) r 0 → ⊥) ⌝ }
+    ensures here { λ r. ⌜ (r < length (now (text .entry)) → r < length (now (word .entry))
+        → getD (now (text .entry)) r 0 ≡ getD (now (word .entry)) r 0 → ⊥) ⌝ }
 {
     let mut n = 0;
     while n < text.len() && n < word.len() && text[n] == word[n] {
@@ -98,7 +99,8 @@ impl<'a> Cursor<'a> {
 
     /// Passes a literal word.
     pub(crate) fn word(&mut self, word: &[u8]) -> Result<(), FormFault>
-        ensures { λ r. ⌜ PassesWord (now (word .entry)) (drop (now (self .entry) .at) (now (now (self .entry) .line))) (drop (now (self .exit) .at) (now (now (self .exit) .line))) (now (self .entry) .at) (now (self .exit) .at) r ⌝ }
+        ensures { λ r. ⌜ PassesWord (now (word .entry)) (drop (now (self .entry) .at) (now (now (self .entry) .line)))
+            (drop (now (self .exit) .at) (now (now (self .exit) .line))) (now (self .entry) .at) (now (self .exit) .at) r ⌝ }
     {
         let shared = shared_front(&self.line[self.at..self.line.len()], word);
         if shared < word.len() {
@@ -112,7 +114,8 @@ impl<'a> Cursor<'a> {
 
     /// Passes a number in decimal digits, of which there may be leading zeros.
     pub(crate) fn number(&mut self) -> Result<u32, FormFault>
-        ensures { λ r. ⌜ PassesNumber (drop (now (self .entry) .at) (now (now (self .entry) .line))) (drop (now (self .exit) .at) (now (now (self .exit) .line))) (now (self .entry) .at) (now (self .exit) .at) r ⌝ }
+        ensures { λ r. ⌜ PassesNumber (drop (now (self .entry) .at) (now (now (self .entry) .line)))
+            (drop (now (self .exit) .at) (now (now (self .exit) .line))) (now (self .entry) .at) (now (self .exit) .at) r ⌝ }
     {
         match leading_number(&self.line[self.at..self.line.len()]) {
             Ok((number, count)) => {

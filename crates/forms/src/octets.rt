@@ -11,7 +11,7 @@ use std::alloc::Global;
 use std::alloc::Refused;
 
 /// Why a text was not read as a list of octets.
-#[derive(Clone, Copy, PartialEq, Eq, Debug)]
+#[derive(Clone, Copy)]
 pub enum OctetsFault {
     /// The text is no list of octets: the place of its first character that is wrong, missing or too many.
     Misfit { place: usize },

@@ -2,7 +2,7 @@
 ghost use Prim.Native.Nat.{_≤_, _<_};
 
 /// What the cutting of a packet turns on: its priority, its reference number and its length, 1 to 424 octets.
-#[derive(Clone, Copy, PartialEq, Eq, Debug)]
+#[derive(Clone, Copy)]
 pub struct Cutting {
     pub q: u8,
     pub rn: u8,

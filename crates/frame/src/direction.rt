@@ -36,11 +36,11 @@ pub trait Direction {
 }
 
 /// From the ground to the aircraft.
-#[derive(Clone, Copy, PartialEq, Eq, Debug)]
+#[derive(Clone, Copy)]
 pub struct Uplink;
 
 /// From the aircraft to the ground.
-#[derive(Clone, Copy, PartialEq, Eq, Debug)]
+#[derive(Clone, Copy)]
 pub struct Downlink;
 
 pub impl Direction for Uplink as UplinkDirection {

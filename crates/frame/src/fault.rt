@@ -3,7 +3,7 @@ ghost use mathlib.Core.Path.{_≡_};
 ghost use Rattle.frame.specs.Refusals.{refused};
 
 /// The layer that refused.
-#[derive(Clone, Copy, PartialEq, Eq, Debug)]
+#[derive(Clone, Copy)]
 pub enum Layer {
     Frame,
     End,
@@ -13,7 +13,7 @@ pub enum Layer {
 }
 
 /// A refusal as every caller sees it: its number, the layer that made it and, where the number has one, a place.
-#[derive(Clone, Copy, PartialEq, Eq, Debug)]
+#[derive(Clone, Copy)]
 pub struct Refusal {
     pub number: u8,
     pub layer: Layer,
@@ -21,7 +21,7 @@ pub struct Refusal {
 }
 
 /// What the frame layer refuses.
-#[derive(Clone, Copy, PartialEq, Eq, Debug)]
+#[derive(Clone, Copy, Debug)]
 pub enum FrameFault {
     /// A packet of no or over 424 octets, or a priority or reference number above 3.
     Packet,

@@ -4,7 +4,7 @@ ghost use mathlib.Core.Bool.{cond};
 ghost use Rattle.frame.specs.Flags.{marksOf, flagsOctet};
 
 /// The flags of a report: bit `i` stands for the number `i + 1` behind the oldest one not received.
-#[derive(Clone, Copy, PartialEq, Eq, Debug)]
+#[derive(Clone, Copy)]
 pub struct Flags {
     pub octet: u8,
 }

@@ -4,7 +4,7 @@ ghost use Rattle.frame.specs.Headers.{headerOf, HeaderWritten};
 
 /// What the header octet of a BDU says: its packet's reference number and priority, whether more BDUs of
 /// the packet follow, and which BDU of the packet it is, from 0.
-#[derive(Clone, Copy, PartialEq, Eq, Debug)]
+#[derive(Clone, Copy)]
 pub struct BduHeader {
     pub rn: u8,
     pub q: u8,

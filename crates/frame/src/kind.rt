@@ -5,14 +5,14 @@ ghost use Rattle.frame.specs.Directions.{kindOctet};
 ghost use Rattle.std.specs.Options.{Cases};
 
 /// The way of a data frame: up to the aircraft, or down to the ground.
-#[derive(Clone, Copy, PartialEq, Eq, Debug)]
+#[derive(Clone, Copy)]
 pub enum Way {
     Up,
     Down,
 }
 
 /// The four kinds of frames. A report is named by the data frames that it reports on: the aircraft sends the uplink's.
-#[derive(Clone, Copy, PartialEq, Eq, Debug)]
+#[derive(Clone, Copy)]
 pub enum Kind {
     UplinkData = 1,
     DownlinkData = 2,

@@ -33,11 +33,11 @@ pub trait Number: Copy {
 }
 
 /// A number of an uplink data frame.
-#[derive(Clone, Copy, PartialEq, Eq, Debug)]
+#[derive(Clone, Copy)]
 pub struct UplinkNumber(u8);
 
 /// A number of a downlink data frame.
-#[derive(Clone, Copy, PartialEq, Eq, Debug)]
+#[derive(Clone, Copy)]
 pub struct DownlinkNumber(u8);
 
 pub impl Number for UplinkNumber as UplinkNumbers {
@@ -65,7 +65,7 @@ pub impl Number for DownlinkNumber as DownlinkNumbers {
 }
 
 /// The number that a frame shows, of whichever direction the frame is.
-#[derive(Clone, Copy, PartialEq, Eq, Debug)]
+#[derive(Clone, Copy)]
 pub enum FrameNumber {
     Uplink(UplinkNumber),
     Downlink(DownlinkNumber),

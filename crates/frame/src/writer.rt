@@ -27,7 +27,8 @@ fn head(kind: Kind, log_on: LogOn, number: u8, last: u8) -> [u8; 8]
 /// Writes `front` and then `rest` at the front of the buffer.
 fn put(buffer: &mut [u8], front: &[u8], rest: &[u8])
     requires { ⌜ length (now front) + length (now rest) ≤ length (now buffer) ⌝ }
-    ensures { λ _. ⌜ now (buffer .exit) ≡ now (front .entry) ++ now (rest .entry) ++ drop (length (now (front .entry)) + length (now (rest .entry))) (now (buffer .entry)) ⌝ }
+    ensures { λ _. ⌜ now (buffer .exit) ≡ now (front .entry) ++ now (rest .entry)
+        ++ drop (length (now (front .entry)) + length (now (rest .entry))) (now (buffer .entry)) ⌝ }
 {
     let k = front.len();
     let n = rest.len();
@@ -43,7 +44,8 @@ pub fn write_data<D: Direction>(
     number: D::Number,
     bdu: Bdu<'_>,
 ) -> Result<usize, FrameFault>
-    ensures { λ r. ⌜ DataWritten (D·Direction .way) («log_on» .aircraft) («log_on» .number) (Number·Number .value number) (bdu .entry .header) (now (bdu .entry .payload)) (now (buffer .entry)) r (now (buffer .exit)) ⌝ }
+    ensures { λ r. ⌜ DataWritten (D·Direction .way) («log_on» .aircraft) («log_on» .number) (Number·Number .value number)
+        (bdu .entry .header) (now (bdu .entry .payload)) (now (buffer .entry)) r (now (buffer .exit)) ⌝ }
 {
     if buffer.len() < ROOM {
         return Err(FrameFault::Buffer);
@@ -64,7 +66,8 @@ pub fn write_report<D: Direction>(
     oldest: D::Number,
     flags: Flags,
 ) -> Result<usize, FrameFault>
-    ensures { λ r. ⌜ ReportWritten (D·Direction .way) («log_on» .aircraft) («log_on» .number) (Number·Number .value oldest) (flags .octet) (now (buffer .entry)) r (now (buffer .exit)) ⌝ }
+    ensures { λ r. ⌜ ReportWritten (D·Direction .way) («log_on» .aircraft) («log_on» .number) (Number·Number .value oldest)
+        (flags .octet) (now (buffer .entry)) r (now (buffer .exit)) ⌝ }
 {
     if buffer.len() < ROOM {
         return Err(FrameFault::Buffer);
