@@ -6,6 +6,7 @@ use mathlib.Core.Bool.{cond}
 use Prim.Native.Nat.{ℕ, zero, suc, _+_, _-_, _*_, _/_, _%_, _<_, _≤_}
 use native.Mathlib.Omega.{arith}
 use lib.ListN.{length, getD, take, drop, length-append, take-append-drop}
+use Rattle.frame.proofs.Departures.{one-place}
 use Rattle.frame.specs.Beginnings.{Begins, FirstWrong}
 use Rattle.std.proofs.shelf.Lists.{getD-past, take-all, take-more, length-take-le}
 use Rattle.std.proofs.shelf.Tests.{cases-lt}
@@ -208,14 +209,6 @@ text-whole (b ∷ bs) i none start text some all empty first is =
     let others : take (length (b ∷ bs) - 1) bs ≡ bs = take-all _ bs (omega arith) in
     is ∙ ap (λ l. start ++ spacedText l) (take-all i _ all ∙ others) ∙ ap (λ l. l ++ spacedText bs) (first ∙ ap (λ l. l ++ octetsText (b ∷ [])) empty)
 
--- a list of the wanted form is wrong nowhere
-right-nowhere : (Wanted : List ℕ → Type 0) (xs : List ℕ) (place : ℕ) → FirstWrong Wanted xs place → Wanted xs → ⊥
-right-nowhere Wanted xs place wrong wanted =
-    ⊎-elim
-    (λ inside. wrong .here inside (drop (place + 1) xs, subst Wanted (sym (take-append-drop (place + 1) xs)) wanted))
-    (λ past. wrong .missing (omega (arith, wrong .within)) wanted)
-    (cases-lt place (length xs))
-
 octet-same : (b c : ℕ) → b < 256 → c < 256 → digit (b / 16) ≡ digit (c / 16) → digit (b % 16) ≡ digit (c % 16) → b ≡ c
 octet-same b c small little high low =
     let over : b / 16 ≡ c / 16 = digit-same (b / 16) (c / 16) (omega arith) (omega arith) high in
@@ -240,5 +233,5 @@ text-tells (b ∷ bs) (c ∷ cs) all every same = spaced-tells (b ∷ bs) (c ∷
 -- what was written is read as what it was written from
 pub read-back : {Z : Type 0} (octets text : List ℕ) (r : Result (Vec ℕ Z) OctetsFault) → AreOctets octets → text ≡ octetsText octets → OctetsRead text r → ReadBack octets r
 read-back octets text (Ok v) all written (every, is) = text-tells (vec-items v) octets every all (sym is ∙ written)
-read-back octets text (Err (Misfit place)) all written wrong = absurd (right-nowhere IsOctets text place wrong (octets, all, written))
+read-back octets text (Err (Misfit place)) all written wrong = absurd (one-place IsOctets text .none place wrong (octets, all, written))
 read-back octets text (Err Memory) all written wrong = refl

@@ -2,3 +2,4 @@ pub mod Misfits
 pub mod Parts
 pub mod Marks
 pub mod Octets
+pub mod Departures

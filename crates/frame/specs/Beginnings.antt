@@ -15,3 +15,8 @@ pub record FirstWrong (Wanted : List ℕ → Type 0) (xs : List ℕ) (place : �
   pub before : Begins Wanted (take place xs)
   pub here : place < length xs → Begins Wanted (take (place + 1) xs) → ⊥
   pub missing : place ≡ length xs → Wanted xs → ⊥
+
+-- there is at most one such place, and none in a list of the wanted form
+pub record OnePlace (Wanted : List ℕ → Type 0) (xs : List ℕ) : Type 0 where
+  pub one : (p q : ℕ) → FirstWrong Wanted xs p → FirstWrong Wanted xs q → p ≡ q
+  pub none : (p : ℕ) → FirstWrong Wanted xs p → Wanted xs → ⊥

@@ -1,7 +1,7 @@
 //! Reading a frame.
 ghost use mathlib.Core.Path.{_≡_};
 ghost use lib.ListN.{getD};
-ghost use Rattle.frame.specs.Beginnings.{FirstWrong};
+ghost use Rattle.frame.specs.Beginnings.{FirstWrong, OnePlace};
 ghost use Rattle.frame.specs.Directions.{wayOf, octetOf, wayOfKind};
 ghost use Rattle.frame.specs.Frames.{Read, Readable, Rewritten};
 ghost use Rattle.std.specs.Options.{Cases};
@@ -88,10 +88,11 @@ fn number_of(kind: Kind, octet: u8) -> FrameNumber
 
 /// Reads a frame. Every list of octets has one answer: what the frame says, or the place of the first octet
 /// that is wrong, missing or too many. A frame that is read has the octets that the writers write from what it
-/// says, so two frames that say the same are the same.
+/// says, so two frames that say the same are the same; and no other place, or answer, fits the octets.
 pub fn read(frame: &[u8]) -> Result<Frame<'_>, FrameFault>
     ensures read { λ r. ⌜ Read (now (frame .entry)) r ⌝ }
     ensures rewritten { λ r. ⌜ Rewritten (now (frame .entry)) r ⌝ }
+    ensures one { λ _. ⌜ OnePlace Readable (now (frame .entry)) ⌝ }
 {
     if let Some(place) = first_wrong(frame) {
         return Err(FrameFault::Unreadable { place });

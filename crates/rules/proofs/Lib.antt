@@ -1,0 +1,14 @@
+pub mod Lists
+pub mod Order
+pub mod Choice
+pub mod SendAnswers
+pub mod Credit
+pub mod Unused
+pub mod Leaving
+pub mod States
+pub mod Heard
+pub mod Slots
+pub mod OneState
+pub mod Refusing
+pub mod ReceivingLaws
+pub mod Examples

@@ -1,0 +1,11 @@
+pub mod Constants
+pub mod Receiving
+pub mod ReceivingLaws
+pub mod Sending
+pub mod SendingLaws
+pub mod Choice
+pub mod SendAnswers
+pub mod Reports
+pub mod Refusals
+pub mod Ends
+pub mod Examples
