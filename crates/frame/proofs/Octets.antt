@@ -20,14 +20,14 @@ use Rattle.frame.specs.declared.reader.Frame.{Frame}
 use Rattle.frame.specs.declared.reader.Frame.the-variants.{Data, Report}
 
 -- a header comes back from its octet
-header-back : (h : BduHeader) → Small h → headerOf (headerOctet h) ≡ h
+pub header-back : (h : BduHeader) → Small h → headerOf (headerOctet h) ≡ h
 header-back h small = search needs
 
 -- a number of four octets comes back from them
 quotients : (l q r s : ℕ) → l / 256 ≡ q → q / 256 ≡ r → r / 256 ≡ s → s < 256 → ((s % 256 * 256 + r % 256) * 256 + q % 256) * 256 + l % 256 ≡ l
 quotients l q r s d e f k = omega arith
 
-log-on-back : (l : ℕ) → l < 2 ^ 32 → ((l / 16777216 % 256 * 256 + l / 65536 % 256) * 256 + l / 256 % 256) * 256 + l % 256 ≡ l
+pub log-on-back : (l : ℕ) → l < 2 ^ 32 → ((l / 16777216 % 256 * 256 + l / 65536 % 256) * 256 + l / 256 % 256) * 256 + l % 256 ≡ l
 log-on-back l k =
     quotients l (l / 256) (l / 65536) (l / 16777216) refl (div-div-eq-div-mul l 256 256) (div-div-eq-div-mul l 65536 256) (omega arith)
 

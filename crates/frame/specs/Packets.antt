@@ -14,20 +14,28 @@ use Rattle.std.specs.declared.option.Option.the-variants.{Some, None}
 use Rattle.std.specs.declared.result.Result.{Result}
 use Rattle.std.specs.declared.result.Result.the-variants.{Ok, Err}
 
+-- the octets of every BDU but a packet's last
+abbrev pub part-size : ℕ
+part-size = 53
+
+-- the most octets of a packet
+abbrev pub longest : ℕ
+longest = 424
+
 -- a packet of this priority, reference number and length can be cut
 pub record CanCut (q rn len : ℕ) : Type 0 where
   pub priority : q < 4
   pub reference : rn < 4
   pub some : 1 ≤ len
-  pub most : len ≤ 424
+  pub most : len ≤ longest
 
 -- how many BDUs a packet of this length has
 abbrev pub bdusIn : ℕ → ℕ
-bdusIn len = (len + 52) / 53
+bdusIn len = (len + (part-size - 1)) / part-size
 
 -- the octets of a packet's BDU: 53 from 53 times its BSN on, or what is left
 abbrev pub partAt : List ℕ → ℕ → List ℕ
-partAt packet bsn = take 53 (drop (53 * bsn) packet)
+partAt packet bsn = take part-size (drop (part-size * bsn) packet)
 
 -- the header of a packet's BDU; M says that more follow
 abbrev pub headerAtBsn : Cutting → ℕ → BduHeader
@@ -60,5 +68,5 @@ HeaderCut cutting bsn None = bdusIn (cutting .len) ≤ bsn
 -- a BDU's octets as a part of the packet: none behind the last BDU
 abbrev pub PartCut : List ℕ → ℕ → Option (RefT (List ℕ)) → Type 0
 PartCut packet bsn (Some part) =
-    (bsn < bdusIn (length packet)) × (part .now ≡ partAt packet bsn) × (length (part .now) ≡ min 53 (length packet - 53 * bsn))
+    (bsn < bdusIn (length packet)) × (part .now ≡ partAt packet bsn) × (length (part .now) ≡ min part-size (length packet - part-size * bsn))
 PartCut packet bsn None = bdusIn (length packet) ≤ bsn

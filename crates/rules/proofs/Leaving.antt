@@ -11,7 +11,8 @@ use Rattle.std.proofs.shelf.Tests.{cases-bool, cond-false}
 use Rattle.std.proofs.shelf.Lists.{getD-set-other}
 use Rattle.rules.specs.Constants.{lifetime, rest}
 use Rattle.rules.specs.Sending.{BduKey, Progress, Standing, Outgoing, Sending, Answer, blank, packet, place, is-free, turn, passed, accepted, Sends, moved, gap, told, is-whole, closed, places, heard, confirmed, is-late, rested, aged, older, slotted, expired, credits}
-use Rattle.rules.specs.SendingLaws.{Among, Stays, LeavesBy}
+use Rattle.rules.specs.Members.{Among}
+use Rattle.rules.specs.SendingLaws.{Stays, LeavesBy}
 use Rattle.rules.proofs.Lists.{never, getD-map, first-passes, places-have, inside}
 use Rattle.rules.proofs.Credit.{moved-keeps, credit-keeps}
 

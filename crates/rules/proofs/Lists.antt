@@ -9,7 +9,7 @@ use lib.ListN.{length, getD, set, drop, replicate, length-append, length-drop, l
 use Rattle.std.proofs.shelf.Tests.{cases-lt, cases-eq, cond-both}
 use Rattle.std.proofs.shelf.Lists.{getD-set-same, getD-set-other, getD-append-left, getD-append-right, getD-past, getD-drop}
 use Rattle.rules.specs.Sending.{Standing, Outgoing, first, places, blank}
-use Rattle.rules.specs.SendingLaws.{Among}
+use Rattle.rules.specs.Members.{Among}
 
 pub never : {A : Type 0} → _≡_ {A = ℕ} 0 1 → A
 never e = absurd (omega arith)
@@ -71,6 +71,15 @@ places-have f i (o ∷ os) zero l e = rw e (inl (omega arith))
 places-have f i (o ∷ os) (suc k) l e =
     let r : Among (i + suc k) (places f (suc i) os) = subst (λ x. Among x (places f (suc i) os)) (omega arith) (places-have f (suc i) os k (omega arith) e) in
     cond-both (f o) (i ∷ places f (suc i) os) (places f (suc i) os) (Among (i + suc k)) (λ _. inr r) (λ _. r)
+
+pub places-only : (f : Outgoing → Bool) (i : ℕ) (os : List Outgoing) (p : ℕ) → Among p (places f i os) → (k : ℕ) × (p ≡ i + k) × (k < length os) × (f (getD os k blank) ≡ true)
+places-only f i [] p = λ a. absurd a
+places-only f i (o ∷ os) p =
+    let more : Among p (places f (suc i) os) → (k : ℕ) × (p ≡ i + k) × (k < suc (length os)) × (f (getD (o ∷ os) k blank) ≡ true) =
+    λ a. let r = places-only f (suc i) os p a in (suc (r .0), (let e = r .1 in omega arith), (let l = r .2 in omega arith), r .3) in
+    cond-both (f o) (i ∷ places f (suc i) os) (places f (suc i) os) (λ x. Among p x → (k : ℕ) × (p ≡ i + k) × (k < suc (length os)) × (f (getD (o ∷ os) k blank) ≡ true))
+    (λ e. ⊎-elim (λ s. (0, (omega arith), (omega arith), e)) more)
+    (λ _. more)
 
 -- a pending packet lies in the list
 pub inside : (ps : List Outgoing) (p since : ℕ) → getD ps p blank .standing ≡ Standing.Pending since → p < length ps

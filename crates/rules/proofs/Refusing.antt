@@ -1,22 +1,14 @@
 -- The test of a report decides whether the rule refuses it.
 use Prim.Native.Nat.{ℕ, _+_, _≤_, _<_}
-use mathlib.Core.Path.{_≡_, refl, sym}
+use mathlib.Core.Path.{_≡_}
 use mathlib.Core.Logic.{_⊎_, inl, inr, ⊎-elim}
 use mathlib.Core.Bool.{Bool, true, false, not, _&&_, _||_}
 use native.Mathlib.Omega.{arith}
 use lib.Dec.{leb, ltb}
-use Rattle.std.proofs.shelf.Tests.{cases-lt, both-ways, and-parts, and-from, or-cases, or-left, or-right, ltb-true, ltb-false, lt-ltb, leb-true}
+use Rattle.std.proofs.shelf.Tests.{cases-lt, both-ways, not-true, not-from-false, and-parts, and-from, or-cases, or-left, or-right, ltb-true, ltb-false, lt-ltb, leb-true}
 use Rattle.rules.specs.Reports.{astray, is-refused, Decided, TestDecides}
 use Rattle.rules.specs.Sending.{Sending, first, gap, told, was-sent, mark, Refused}
 use Rattle.rules.proofs.Lists.{first-passes, first-least}
-
-not-true : (b : Bool) → not b ≡ true → b ≡ false
-not-true false e = refl
-not-true true e = sym e
-
-not-false : (b : Bool) → b ≡ false → not b ≡ true
-not-false false e = refl
-not-false true e = sym e
 
 -- a report tells of no entry further than eight behind its R
 told-near : (d : ℕ) (flag : ℕ → Bool) (k : ℕ) → told d flag k ≡ true → k ≤ d + 8
@@ -39,7 +31,7 @@ decided R flag S = record {
       ⊎-elim
       (λ far. both-ways _ e (or-left _ _ (lt-ltb 9 (gap R S) far)))
       (λ x.
-      let wrong = and-from _ _ (x .1) (not-false _ (x .2)) in
+      let wrong = and-from _ _ (x .1) (not-from-false _ (x .2)) in
       let near = told-near (gap R S) flag (x .0) (x .1) in
       ⊎-elim
       (λ far. both-ways _ e (or-left _ _ (lt-ltb 9 (gap R S) far)))

@@ -1,5 +1,6 @@
 -- The numbers of the service, each under its name.
 use Prim.Native.Nat.{ℕ}
+use Rattle.frame.specs.Packets.{longest}
 
 -- slots from the accept of a packet to its expiry
 abbrev pub lifetime : ℕ
@@ -29,9 +30,14 @@ window-size = 9
 abbrev pub last-slot : ℕ
 last-slot = 4000000000
 
--- the least room for a frame, and for a packet
+-- the most that the delays of a channel's two lanes add up to
+abbrev pub delays : ℕ
+delays = 1
+
+-- the least room for a frame: the longest one has eight octets and a BDU's
 abbrev pub frame-room : ℕ
 frame-room = 61
 
+-- the least room for a packet
 abbrev pub packet-room : ℕ
-packet-room = 424
+packet-room = longest

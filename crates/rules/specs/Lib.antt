@@ -1,4 +1,5 @@
 pub mod Constants
+pub mod Members
 pub mod Receiving
 pub mod ReceivingLaws
 pub mod Sending

@@ -5,14 +5,10 @@ use mathlib.Core.Logic.{_⊎_}
 use mathlib.Core.Bool.{Bool}
 use mathlib.Core.List.{List, [], _∷_}
 use lib.ListN.{length, getD}
+use Rattle.rules.specs.Members.{Among}
 use Rattle.rules.specs.Constants.{window-size, packet-room}
 use Rattle.rules.specs.Sending.{BduKey, Mark, Progress, Standing, Sending, Answer, new, mark, packet, place, pieces, turn, passed, accepted, Sends, Refused, heard, confirmed, slotted, expired}
 use Rattle.std.specs.declared.option.Option.the-variants.{Some}
-
--- x stands in the list
-abbrev pub Among : {A : Type 0} → A → List A → Type 0
-Among x [] = ⊥
-Among x (y ∷ ys) = (x ≡ y) ⊎ Among x ys
 
 -- the halves that calls lead to, each with its slot: a new one, and one after a packet taken, a frame sent, a report taken, or a slot that is not an earlier one
 pub data Called : ℕ → Sending → Type 0 where
