@@ -18,17 +18,18 @@ fn cuts_a_packet_of_54_octets() -> Result<(), Fail> {
     check(part(&packet, 2).is_none())
 }
 
-#[test]
-fn writes_a_frame_that_reads_back() -> Result<(), Fail> {
+/// The frame that carries a packet of the one octet 41.
+fn worked_frame(buffer: &mut [u8]) -> Result<usize, Fail> {
     let log_on = LogOn::new(5, 1)?;
     let header = Cutting::new(2, 0, 1)?.header(0).ok_or("no BDU")?;
-    let bdu = Bdu {
-        header,
-        payload: &[0x41],
-    };
+    let bdu = Bdu { header, payload: &[0x41] };
+    Ok(write_data::<Uplink>(buffer, log_on, UplinkNumber::from_octet(0), bdu)?)
+}
+
+#[test]
+fn writes_only_the_frames_octets() -> Result<(), Fail> {
     let mut buffer = [0xff; 62];
-    let len = write_data::<Uplink>(&mut buffer, log_on, UplinkNumber::from_octet(0), bdu)?;
-    check_eq(len, 9)?;
+    check_eq(worked_frame(&mut buffer)?, 9)?;
     check(buffer[0..10] == [1, 5, 0, 0, 0, 1, 0, 0x20, 0x41, 0xff])?;
     Ok(())
 }
