@@ -22,7 +22,10 @@ fn cuts_a_packet_of_54_octets() -> Result<(), Fail> {
 fn worked_frame(buffer: &mut [u8]) -> Result<usize, Fail> {
     let log_on = LogOn::new(5, 1)?;
     let header = Cutting::new(2, 0, 1)?.header(0).ok_or("no BDU")?;
-    let bdu = Bdu { header, payload: &[0x41] };
+    let bdu = Bdu {
+        header,
+        payload: &[0x41],
+    };
     Ok(write_data::<Uplink>(buffer, log_on, UplinkNumber::from_octet(0), bdu)?)
 }
 
