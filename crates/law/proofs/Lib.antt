@@ -41,3 +41,4 @@ pub mod NeededDelays
 pub mod NeededReturn
 pub mod NeededRest
 pub mod NeededLoss
+pub mod Listing

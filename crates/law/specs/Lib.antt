@@ -18,3 +18,4 @@ pub mod Channels
 pub mod Links
 pub mod Exhibits
 pub mod Needed
+pub mod Listing

@@ -6,6 +6,7 @@ ghost use Rattle.rules.specs.Constants as service;
 ghost use Rattle.law.specs.Exhibits.{LostAndSentAgain, ExpiresAndGivesAgain};
 ghost use Rattle.law.specs.Kept.{LastIsOne};
 ghost use Rattle.law.specs.Links.{LinkKeepsLaws};
+ghost use Rattle.law.specs.Listing.{ListingIsRun};
 ghost use Rattle.law.specs.Needed.{DelaysTwo, ReturnedAfterOne, FreeAtExpiry, KeepsItsBdu};
 ghost use Rattle.law.specs.ReceivingFollows.{ReceivingFollows};
 ghost use Rattle.law.specs.Samples.{Samples, Apart};
@@ -14,12 +15,14 @@ ghost use Rattle.law.specs.Sound.{LinkSound};
 
 /// The most that the delays of a channel's two lanes add up to. Then the law of the link holds: of every run's log the three
 /// laws are true, whatever the steps and whatever the channel does within its meaning. A log has at most one last accept of a
-/// log-on, Q and RN; and between two hand-ups of them lies an accept, so that no two pair with one.
+/// log-on, Q and RN; and between two hand-ups of them lies an accept, so that no two pair with one. The worked listing of the
+/// protocol is such a run, octet by octet.
 pub fn delays() -> u32
     ensures value { λ r. ⌜ r ≡ service.delays ⌝ }
     ensures law { λ _. ⌜ LinkKeepsLaws ⌝ }
     ensures last { λ _. ⌜ LastIsOne ⌝ }
     ensures apart { λ _. ⌜ Apart ⌝ }
+    ensures listing { λ _. ⌜ ListingIsRun ⌝ }
 {
     1
 }
