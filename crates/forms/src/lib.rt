@@ -1,4 +1,6 @@
 //! The forms of linkrun: a reader, what a session answers, and how the answer is printed. Lists of octets as text.
+#![tactic(auto)]
+
 pub use fault::{FormFault, SessionFault};
 pub use form::Form;
 pub use line::without_newline;

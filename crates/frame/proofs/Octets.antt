@@ -1,15 +1,14 @@
 -- Frames come back from their octets, and octets from their fields.
-use Rattle.std.proofs.Common.{◌≡◌, ℕ, zero, suc, ◌+◌, ◌-◌, ◌*◌, ◌/◌, ◌%◌, ◌^◌, ◌<◌, ◌≤◌, Bool, true, false, cond, eqb, List, [], ◌∷◌, ◌++◌, length, get_or, take, drop, sym, refl, ap, ◌∙◌, arith, rules}
+use Rattle.std.proofs.Common.{◌≡◌, ℕ, ◌+◌, ◌-◌, ◌*◌, ◌/◌, ◌%◌, ◌^◌, ◌<◌, ◌≤◌, true, List, [], ◌∷◌, length, get_or, sym, refl, ap, ◌∙◌, arith, rules}
 use native.Mathlib.Nat.{div-div-eq-div-mul}
 use Rattle.std.proofs.lemmas.List.{take_all}
 use Rattle.frame.specs.Directions.{data_kind, report_kind, kind_octet, way_of}
-use Rattle.frame.specs.Frames.{Fits, Readable, CarriesData, CarriesReport, Shows, OnlyGoes, kind_at, log_on_at, header_at, payload_at}
-use Rattle.frame.specs.Headers.{Small, header_of, header_octet, more_of, bsn_of}
+use Rattle.frame.specs.Frames.{CarriesData, CarriesReport, OnlyGoes, kind_at, header_at, payload_at}
+use Rattle.frame.specs.Headers.{Small, header_of, header_octet}
 use Rattle.frame.specs.Writing.{data_octets, report_octets}
 use Rattle.frame.specs.declared.header.BduHeader.{BduHeader}
 use Rattle.frame.specs.declared.kind.Way.{Way}
 use Rattle.frame.specs.declared.kind.Way.TheVariants.{Up, Down}
-use Rattle.frame.specs.declared.reader.Frame.{Frame}
 use Rattle.frame.specs.declared.reader.Frame.TheVariants.{Data, Report}
 
 -- a header comes back from its octet

@@ -1,7 +1,7 @@
 -- The four frames, octet by octet.
-use Rattle.std.specs.Prelude.{◌≡◌, ℕ, ◌+◌, ◌-◌, ◌*◌, ◌/◌, ◌%◌, ◌<◌, ◌≤◌, Bool, true, false, cond, List, [], ◌∷◌, ◌++◌, length, take, drop, Some, None, Ok, Err, Option, Result, slice_index}
+use Rattle.std.specs.Prelude.{◌≡◌, ℕ, ◌+◌, ◌-◌, ◌*◌, ◌<◌, ◌≤◌, true, List, length, take, drop, Ok, Err, Result, slice_index}
 use Rattle.frame.specs.Directions.{data_kind, report_kind, kind_octet, way_of, octet_of}
-use Rattle.frame.specs.Headers.{header_octet, header_of, more_of, bsn_of}
+use Rattle.frame.specs.Headers.{header_of, more_of, bsn_of}
 use Rattle.frame.specs.declared.header.BduHeader.{BduHeader}
 use Rattle.frame.specs.declared.kind.Way.{Way}
 use Rattle.frame.specs.declared.reader.Frame.{Frame}

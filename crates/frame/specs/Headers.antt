@@ -1,5 +1,5 @@
 -- The BDU header in an octet: 64 times RN, 16 times Q, 8 for M, and BSN.
-use Rattle.std.specs.Prelude.{◌≡◌, ℕ, ◌+◌, ◌*◌, ◌/◌, ◌%◌, ◌<◌, Bool, true, false, cond, Some, None, Option, ◌==◌}
+use Rattle.std.specs.Prelude.{◌≡◌, ℕ, ◌+◌, ◌*◌, ◌/◌, ◌%◌, ◌<◌, Bool, cond, Some, None, Option, ◌==◌}
 use Rattle.frame.specs.declared.header.BduHeader.{BduHeader}
 
 abbrev pub rn_of : ℕ → ℕ

@@ -1,5 +1,5 @@
 -- Frames written from their fields.
-use Rattle.std.specs.Prelude.{◌≡◌, ℕ, ◌+◌, ◌/◌, ◌%◌, ◌<◌, ◌≤◌, List, [], ◌∷◌, ◌++◌, length, drop, Ok, Err, Result}
+use Rattle.std.specs.Prelude.{◌≡◌, ℕ, ◌/◌, ◌%◌, ◌<◌, ◌≤◌, List, [], ◌∷◌, ◌++◌, length, drop, Ok, Err, Result}
 use Rattle.frame.specs.Directions.{data_kind, report_kind, kind_octet}
 use Rattle.frame.specs.Headers.{header_octet}
 use Rattle.frame.specs.declared.fault.FrameFault.{FrameFault}

@@ -1,4 +1,6 @@
 //! Frames of the reliable link: numbers, BDU headers, packets cut into BDUs, the four frames read and written.
+#![tactic(auto)]
+
 pub use bdu::Bdu;
 pub use cut::part;
 pub use cutting::Cutting;

@@ -1,4 +1,6 @@
 //! Shows captured frames: one frame a line on standard input, and a line in words for each on standard output.
+#![tactic(auto)]
+
 use dump::dump_line;
 use forms::without_newline;
 use std::io;

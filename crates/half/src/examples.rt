@@ -44,7 +44,7 @@ pub struct Examples {
 
 /// Sends what is to be sent next.
 fn go<D: Direction>(sender: &mut Sender<D>, count: u8, slot: u32) -> Option<Sent>
-    ensures { Goes count slot (sending Number-as-Number sender.old) result (sending Number-as-Number sender.new) }
+    ensures { Goes count slot (sending D.Number.Number sender.old) result (sending D.Number.Number sender.new) }
 {
     let Choice::Next(next) = sender.choose(count) else {
         return None;

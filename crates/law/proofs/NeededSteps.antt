@@ -20,7 +20,7 @@ use Rattle.law.specs.LinkRuns.{Sender, flag, rules}
 use Rattle.law.specs.Needed.{but}
 use Rattle.law.proofs.Sides.{both}
 use Rattle.law.proofs.Splits.{splits_order}
-use Rattle.rules.proofs.Lists.{get_d_same}
+use Rattle.rules.proofs.Lists.{get_or_same}
 
 -- ## the states of such a run
 
@@ -275,7 +275,7 @@ taken R S small was =
     let d : ℕ = gap R S in
     ⊎_elim
     (λ l. let n = ltb-true k d l in let z : k ≡ 0 = omega arith in both_ways true (sym (was (omega arith)) ∙ sym (ap (λ n. was_sent (mark S n)) z) ∙ x.2) refl)
-    (λ l. let a = and_parts (ltb d k) (leb k (d + 8) && flag no_flags (k - d - 1)) l in both_ways _ (get_d_same 8 false (k - d - 1)) (and_parts (leb k (d + 8)) (flag no_flags (k - d - 1)) a.1).1)
+    (λ l. let a = and_parts (ltb d k) (leb k (d + 8) && flag no_flags (k - d - 1)) l in both_ways _ (get_or_same 8 false (k - d - 1)) (and_parts (leb k (d + 8)) (flag no_flags (k - d - 1)) a.1).1)
     (or_cases (ltb k d) (ltb d k && (leb k (d + 8) && flag no_flags (k - d - 1))) x.1))
 
 -- ## logs that are wrong

@@ -11,7 +11,7 @@ use Rattle.rules.specs.declared.window.Standing.{Standing}
 use Rattle.rules.specs.Sending.{Sending, blank, mark, packet, pieces, is_free, turn, passed}
 use Rattle.law.specs.SendingTie.{Carries, Far, Gone, Holds, Under, Tied}
 use Rattle.law.specs.SendingFollows.{Taken, NoneFree}
-use Rattle.rules.proofs.Lists.{set_elim, get_d_same, first_passes, first_least}
+use Rattle.rules.proofs.Lists.{set_elim, get_or_same, first_passes, first_least}
 use Rattle.law.proofs.SendingMoves.{entry_over}
 
 free_is : (s : Standing) → is_free s ≡ true → s ≡ Standing.Free
@@ -112,7 +112,7 @@ module _ (d1 d2 : ℕ) (S : Sending) (L : Ledger) (bodies : ℕ → List ℕ) (t
             body = put_at bodies N octets N refl;
             size = ap (λ x. x.size) packet_new ∙ size;
             room = let e = ap (λ x. x.size) packet_new in omega arith;
-            parts = λ b m. subst (Far L.tx.used L.tx.sent N b) (sym (get_d_same 8 Progress.Waiting b)) (λ n l e f. absurd (let k = (v.numbers.uses n l).known in omega arith));
+            parts = λ b m. subst (Far L.tx.used L.tx.sent N b) (sym (get_or_same 8 Progress.Waiting b)) (λ n l e f. absurd (let k = (v.numbers.uses n l).known in omega arith));
           },
         )
 

@@ -12,7 +12,7 @@ use Rattle.rules.specs.declared.window.Progress.{Progress}
 use Rattle.rules.specs.declared.window.Standing.{Standing}
 use Rattle.rules.specs.Sending.{Outgoing, Sending, blank, mark, packet, pieces, first, is_acknowledged, is_acked, is_pending, is_whole, closed, lead, places}
 use Rattle.law.specs.SendingTie.{Carries, Entry, SomeUse, Far, Gone, Holds, Under, Tied}
-use Rattle.rules.proofs.Lists.{get_d_map, get_d_shift, length_shift, first_most, first_passes, first_least, places_have, places_only}
+use Rattle.rules.proofs.Lists.{get_or_map, get_or_shift, length_shift, first_most, first_passes, first_least, places_have, places_only}
 use Rattle.law.proofs.SendingMoves.{one_pending, entry_over, under_over, entry_acked, acked_entry}
 use Rattle.rules.proofs.Lists.{inside}
 use Rattle.std.proofs.lemmas.List.{length-map}
@@ -56,7 +56,7 @@ module _ (d1 : ℕ) (S : Sending) (L : Ledger) (bodies : ℕ → List ℕ) (v : 
         nine = length_shift m S.window Mark.Unused (let e = t.nine in let f = first_most 9 (λ j. not (is_acknowledged (mark S j))) in omega arith) ∙ t.nine;
         sixteen = t.sixteen;
         entries = λ k.
-            subst (Entry T2 (L.tx.oldest + m + k)) (sym (get_d_shift m S.window Mark.Unused k))
+            subst (Entry T2 (L.tx.oldest + m + k)) (sym (get_or_shift m S.window Mark.Unused k))
             (entry_over (marked mk L.tx.oldest L.tx.status L).tx T2 (L.tx.oldest + m + k) (mark S (m + k)) (λ l. l) (λ g. g) (λ _. (refl, refl))
             (λ b _ _ c. (elim b as (λ x. Carries (marked mk L.tx.oldest L.tx.status L).tx ((marked mk L.tx.oldest L.tx.status L).tx.sent (L.tx.oldest + m + k)) x → Carries T2 (T2.sent (L.tx.oldest + m + k)) x) [ Some y ↦ λ z. z | None ↦ λ z. z ]) c)
             (subst (λ x. Entry (marked mk L.tx.oldest L.tx.status L).tx x (mark S (m + k))) (omega arith) (t.entries (m + k))));
@@ -178,7 +178,7 @@ module _ (d1 : ℕ) (S : Sending) (L : Ledger) (bodies : ℕ → List ℕ) (t : 
     entries = λ k. entry_over L.tx (restated verdict L).tx (L.tx.oldest + k) (mark S k) (λ l. l) (λ g. g) (λ _. (refl, refl)) (carries_still (L.tx.oldest + k)) (t.entries k);
     under = λ p.
         let o : Outgoing = packet S p in
-        subst (λ x. Under (restated verdict L).tx L.clock bodies p x.octets x.bdus x.standing) (sym (get_d_map closed S.packets blank p))
+        subst (λ x. Under (restated verdict L).tx L.clock bodies p x.octets x.bdus x.standing) (sym (get_or_map closed S.packets blank p))
         (cond_both (is_whole o) Standing.Free o.standing (Under (restated verdict L).tx L.clock bodies p o.octets o.bdus)
         (λ w j l k.
         let u = whole_owner p w in

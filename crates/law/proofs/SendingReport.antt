@@ -15,7 +15,7 @@ use Rattle.rules.specs.Sending.{Sending, mark, packet, place, gap, told, was_sen
 use Rattle.law.specs.SendingTie.{Carries, Entry, Far, Holds, Under, Tied, Reads}
 use Rattle.law.proofs.SendingMoves.{one_pending}
 use Rattle.rules.proofs.Lists.{inside}
-use Rattle.rules.proofs.Credit.{get_d_judge, length_judge, credit_keeps, credit_length, Carrier, Credited, credit_cases}
+use Rattle.rules.proofs.Credit.{get_or_judge, length_judge, credit_keeps, credit_length, Carrier, Credited, credit_cases}
 
 returned_or : (w : Word) → (w ≡ Word.Returned) ⊎ (w ≡ Word.Returned → ⊥)
 returned_or Word.InFlight = inr (λ e. never (cc))
@@ -187,7 +187,7 @@ module _ (d1 d2 : ℕ) (S : Sending) (L : Ledger) (bodies : ℕ → List ℕ) (t
         oldest = t.oldest;
         nine = length_judge (told (gap R S) flag) now S.window ∙ t.nine;
         sixteen = credit_length (told (gap R S) flag) now S.window S.packets ∙ t.sixteen;
-        entries = λ k. subst (Entry L1.tx (L.tx.oldest + k)) (sym (get_d_judge (told (gap R S) flag) now S.window k)) (entry_judged _ (mark S k) _ (after_is k) (t.entries k));
+        entries = λ k. subst (Entry L1.tx (L.tx.oldest + k)) (sym (get_or_judge (told (gap R S) flag) now S.window k)) (entry_judged _ (mark S k) _ (after_is k) (t.entries k));
         under = λ p.
             let keep = credit_keeps (told (gap R S) flag) now S.window S.packets p in
             subst (λ f. Under L1.tx L.clock bodies p f.octets (packet S1 p).bdus f.standing) (sym keep) (under_judged p _ refl (t.under p));

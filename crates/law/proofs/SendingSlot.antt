@@ -12,7 +12,7 @@ use Rattle.rules.specs.declared.window.Standing.{Standing}
 use Rattle.rules.specs.Sending.{Sending, blank, mark, packet, place, is_late, rested, aged, older, left, slotted, expired}
 use Rattle.law.specs.SendingTie.{Carries, Entry, Gone, Holds, Under, Tied}
 use Rattle.law.specs.SendingFollows.{SlotPassed}
-use Rattle.rules.proofs.Lists.{get_d_map, places_have, places_only}
+use Rattle.rules.proofs.Lists.{get_or_map, places_have, places_only}
 use Rattle.law.proofs.SendingMoves.{gone_not, one_pending}
 use Rattle.rules.proofs.Lists.{inside}
 use Rattle.std.proofs.lemmas.List.{length-map}
@@ -115,9 +115,9 @@ module _ (d1 d2 : ℕ) (S : Sending) (L : Ledger) (bodies : ℕ → List ℕ) (t
     oldest = t.oldest;
     nine = length-map S.window (left c S.packets) ∙ t.nine;
     sixteen = length-map S.packets (older c) ∙ t.sixteen;
-    entries = λ k. subst (Entry L2.tx (L.tx.oldest + k)) (sym (get_d_map (left c S.packets) S.window Mark.Unused k)) (entry_left (L.tx.oldest + k) (mark S k) (t.entries k));
+    entries = λ k. subst (Entry L2.tx (L.tx.oldest + k)) (sym (get_or_map (left c S.packets) S.window Mark.Unused k)) (entry_left (L.tx.oldest + k) (mark S k) (t.entries k));
     under = λ p.
-        subst (λ x. Under L2.tx c bodies p x.octets x.bdus x.standing) (sym (get_d_map (older c) S.packets blank p))
+        subst (λ x. Under L2.tx c bodies p x.octets x.bdus x.standing) (sym (get_or_map (older c) S.packets blank p))
         (under_aged p _ _ (packet S p).standing (t.under p));
   }
 

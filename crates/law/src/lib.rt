@@ -1,5 +1,7 @@
 //! The law of the link: the log of every run of two ends over a channel is right. It stands on a ledger of each direction and log-on,
 //! which counts absolutely and forgets nothing.
+#![tactic(auto)]
+
 ghost use Rattle.std.specs.Prelude.{◌≡◌};
 ghost use Rattle.frame.specs.Numbers.{modulus as turnover};
 ghost use Rattle.rules.specs.Constants as service;

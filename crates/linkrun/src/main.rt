@@ -1,4 +1,6 @@
 //! Reads forms from standard input, one a line, and prints an answer to each.
+#![tactic(auto)]
+
 use forms::{Session, without_newline};
 use std::io;
 use std::io::{BufRead, BufReader};

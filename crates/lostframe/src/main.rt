@@ -1,5 +1,7 @@
 //! Drives one sending half and one receiving half of the uplink by hand: of the two data frames of a packet the first is
 //! lost, its BDU is sent again two slots later, and the packet is handed up and confirmed.
+#![tactic(auto)]
+
 ghost use Rattle.lostframe.specs.Numbers.{uplink};
 ghost use Rattle.sender.specs.Senders.{sending, payload_of, Fitting};
 

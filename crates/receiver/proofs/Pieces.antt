@@ -5,7 +5,7 @@ use Rattle.receiver.specs.declared.place.Piece.{Piece}
 use Rattle.receiver.specs.declared.place.Place.{Place}
 use Rattle.receiver.specs.Places.{piece_of, joined}
 use Rattle.rules.specs.Receiving.{any, before, gathered, packet_to}
-use Rattle.rules.proofs.Lists.{get_d_map}
+use Rattle.rules.proofs.Lists.{get_or_map}
 
 -- what is read behind the end of a row of rooms
 abbrev pub nothing : Piece
@@ -17,7 +17,7 @@ nowhere = record { opened = 0; last = None; pieces = [] }
 
 -- what is shown of the room at a place
 pub piece_at : (ps : List Piece) (k : ℕ) → get_or (map piece_of ps) k None ≡ piece_of (get_or ps k nothing)
-piece_at ps k = get_d_map piece_of ps nothing k
+piece_at ps k = get_or_map piece_of ps nothing k
 
 -- the same among the first ones
 pub piece_in : (ps : List Piece) (count k : ℕ) → k < count → get_or (take count (map piece_of ps)) k None ≡ piece_of (get_or ps k nothing)

@@ -77,7 +77,7 @@ fn age_all(places: &mut [Place], slot: u32)
 impl<D: Direction> Receiver<D> {
     /// A half to which nothing came.
     pub fn new() -> Receiver<D>
-        ensures { receiving Number-as-Number result ≡ rule.new }
+        ensures { receiving D.Number.Number result ≡ rule.new }
     {
         Receiver {
             oldest: D::Number::from_octet(0),
@@ -153,7 +153,7 @@ impl<D: Direction> Receiver<D> {
 
     /// The slot begins: places that were opened 75 slots ago or more are emptied.
     pub fn slot(&mut self, slot: u32)
-        ensures { receiving Number-as-Number self.new ≡ rule.slot slot (receiving Number-as-Number self.old) }
+        ensures { receiving D.Number.Number self.new ≡ rule.slot slot (receiving D.Number.Number self.old) }
     {
         age_all(&mut self.places, slot);
     }

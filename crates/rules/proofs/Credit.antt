@@ -5,10 +5,10 @@ use Rattle.std.proofs.lemmas.List.{get_or-set_same, get_or-set_other, set_past}
 use Rattle.rules.specs.Sending.{BduKey, Mark, Progress, Standing, Outgoing, blank, place, moved, is_old, judged, credited, judge, credit}
 use Rattle.rules.proofs.Lists.{never, set_elim}
 
-pub get_d_judge : (tell : ℕ → Bool) (now : ℕ) (ms : List Mark) (k : ℕ) → get_or (judge tell now ms) k Mark.Unused ≡ judged (get_or ms k Mark.Unused) (tell k) (is_old now (get_or ms k Mark.Unused))
-get_d_judge tell now [] k = refl
-get_d_judge tell now (m ∷ ms) zero = refl
-get_d_judge tell now (m ∷ ms) (suc k) = get_d_judge (λ j. tell (suc j)) now ms k
+pub get_or_judge : (tell : ℕ → Bool) (now : ℕ) (ms : List Mark) (k : ℕ) → get_or (judge tell now ms) k Mark.Unused ≡ judged (get_or ms k Mark.Unused) (tell k) (is_old now (get_or ms k Mark.Unused))
+get_or_judge tell now [] k = refl
+get_or_judge tell now (m ∷ ms) zero = refl
+get_or_judge tell now (m ∷ ms) (suc k) = get_or_judge (λ j. tell (suc j)) now ms k
 
 pub length_judge : (tell : ℕ → Bool) (now : ℕ) (ms : List Mark) → length (judge tell now ms) ≡ length ms
 length_judge tell now [] = refl

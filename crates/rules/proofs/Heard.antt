@@ -5,8 +5,8 @@ use Rattle.std.proofs.lemmas.List.{length-map}
 use Rattle.rules.specs.Constants.{window_size}
 use Rattle.rules.specs.Sending.{BduKey, Mark, Progress, Standing, Outgoing, Sending, blank, mark, packet, place, pieces, first, gap, told, is_old, judged, judge, credit, is_acknowledged, lead, is_acked, is_pending, is_whole, closed, heard}
 use Rattle.rules.specs.SendingLaws.{OfPending, Has}
-use Rattle.rules.proofs.Lists.{never, get_d_map, get_d_shift, first_least}
-use Rattle.rules.proofs.Credit.{get_d_judge, credit_keeps, credit_length, credit_cases}
+use Rattle.rules.proofs.Lists.{never, get_or_map, get_or_shift, first_least}
+use Rattle.rules.proofs.Credit.{get_or_judge, credit_keeps, credit_length, credit_cases}
 use Rattle.rules.proofs.States.{Carries, Of, Kept, same_place, in_packets, in_bdus}
 
 -- ## marks and BDUs are judged
@@ -35,7 +35,7 @@ kept_judged tell now S h =
     let to : (b : BduKey) → OfPending S b → OfPending T b = λ b x. subst (λ f. Of f.octets f.standing b) (sym (keep (place b))) x in
     let from : (b : BduKey) → OfPending T b → OfPending S b = λ b x. subst (λ f. Of f.octets f.standing b) (keep (place b)) x in
     let was : (k : ℕ) (b : BduKey) → Has T k b → Has S k b × (tell k ≡ false) × (is_old now (mark S k) ≡ false) =
-    λ k b x. judged_carries (mark S k) (tell k) (is_old now (mark S k)) b (subst (λ m. Carries m b) (get_d_judge tell now S.window k) x) in
+    λ k b x. judged_carries (mark S k) (tell k) (is_old now (mark S k)) b (subst (λ m. Carries m b) (get_or_judge tell now S.window k) x) in
     record {
       sixteen = credit_length tell now S.window S.packets ∙ h.sixteen;
       room = λ p since e.
@@ -66,7 +66,7 @@ kept_judged tell now S h =
           (λ c.
           let f = h.found b y (sym c.0 ∙ e) in
           let still = c.1 f.0 (f.1.0, b, f.1.1, refl, refl) in
-          (f.0, subst (λ m. Carries m b) (sym (get_d_judge tell now S.window f.0)) (judged_still (mark S f.0) (tell f.0) (is_old now (mark S f.0)) b still.0 still.1 f.1)))
+          (f.0, subst (λ m. Carries m b) (sym (get_or_judge tell now S.window f.0)) (judged_still (mark S f.0) (tell f.0) (is_old now (mark S f.0)) b still.0 still.1 f.1)))
           (λ c. ⊎_elim (λ w. never (let u = w.1 in cc)) (λ w. never (let u = w.2 in cc)) c.1.1)
           (credit_cases tell now S.window S.packets (place b) b.bsn (in_packets S h b y) (in_bdus S h b y));
     }
@@ -78,7 +78,7 @@ shifted n S = record { oldest = S.oldest; window = drop n S.window ++ replicate 
 
 kept_shifted : (n : ℕ) (S : Sending) → ((k : ℕ) → k < n → is_acknowledged (mark S k) ≡ true) → Kept S → Kept (shifted n S)
 kept_shifted n S front h =
-    let at = get_d_shift n S.window Mark.Unused in
+    let at = get_or_shift n S.window Mark.Unused in
     let was : (k : ℕ) (b : BduKey) → Has (shifted n S) k b → Has S (n + k) b = λ k b x. subst (λ m. Carries m b) (at k) x in
     record {
       sixteen = h.sixteen;
@@ -115,7 +115,7 @@ settled S = record { oldest = S.oldest; window = S.window; packets = map closed 
 
 kept_settled : (S : Sending) → Kept S → Kept (settled S)
 kept_settled S h =
-    let at : (p : ℕ) → packet (settled S) p ≡ closed (packet S p) = get_d_map closed S.packets blank in
+    let at : (p : ℕ) → packet (settled S) p ≡ closed (packet S p) = get_or_map closed S.packets blank in
     record {
       sixteen = length-map S.packets closed ∙ h.sixteen;
       room = λ p since.

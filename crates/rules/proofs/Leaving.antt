@@ -6,7 +6,7 @@ use Rattle.rules.specs.Constants.{lifetime, rest}
 use Rattle.rules.specs.Sending.{BduKey, Progress, Standing, Outgoing, Sending, Answer, blank, packet, place, is_free, turn, passed, accepted, Sends, moved, gap, told, is_whole, closed, places, heard, confirmed, is_late, rested, aged, older, slotted, expired, credits}
 use Rattle.rules.specs.Members.{Among}
 use Rattle.rules.specs.SendingLaws.{Stays, LeavesBy}
-use Rattle.rules.proofs.Lists.{never, get_d_map, first_passes, places_have, inside}
+use Rattle.rules.proofs.Lists.{never, get_or_map, first_passes, places_have, inside}
 use Rattle.rules.proofs.Credit.{moved_keeps, credit_keeps}
 
 free_is : (s : Standing) → is_free s ≡ true → s ≡ Standing.Free
@@ -42,7 +42,7 @@ module _ (S : Sending) (p since : ℕ) (pending : (packet S p).standing ≡ Stan
       let cs : List Outgoing = credits R flag now S in
       let keep = credit_keeps (told (gap R S) flag) now S.window S.packets p in
       let still : (get_or cs p blank).standing ≡ Standing.Pending since = ap (λ f. f.standing) keep ∙ pending in
-      let at = get_d_map closed cs blank p in
+      let at = get_or_map closed cs blank p in
       ⊎_elim
       (λ w. inr (subst (λ k. Among k (places is_whole 0 cs)) {x = 0 + p} {y = p} (omega arith) (places_have is_whole 0 cs p (inside cs p since still) w)))
       (λ w. inl (ap (λ o. o.standing) at ∙ cond-false (is_whole (get_or cs p blank)) Standing.Free (get_or cs p blank).standing w ∙ still, ap (λ o. o.octets) at ∙ ap (λ f. f.octets) keep))
@@ -50,7 +50,7 @@ module _ (S : Sending) (p since : ℕ) (pending : (packet S p).standing ≡ Stan
 
   leaves_slot : (now : ℕ) → Stays p since S (slotted now S) ⊎ Among p (expired now S)
   leaves_slot now =
-      let at = get_d_map (older now) S.packets blank p in
+      let at = get_or_map (older now) S.packets blank p in
       let aging = ap (λ o. o.standing) at in
       ⊎_elim
       (λ l. inr (subst (λ k. Among k (expired now S)) {x = 0 + p} {y = p} (omega arith) (places_have (λ o. is_late now o.standing) 0 S.packets p (inside S.packets p since pending) (ap (is_late now) pending ∙ l))))

@@ -16,27 +16,27 @@ set_elim xs i v d k P l same other =
     (λ o. subst P (sym (get_or-set_other xs i k v d o)) (other o))
     (cases_eq k i)
 
-pub get_d_map : {A B : Type 0} (f : A → B) (xs : List A) (d : A) (k : ℕ) → get_or (map f xs) k (f d) ≡ f (get_or xs k d)
-get_d_map f [] d k = refl
-get_d_map f (x ∷ xs) d zero = refl
-get_d_map f (x ∷ xs) d (suc k) = get_d_map f xs d k
+pub get_or_map : {A B : Type 0} (f : A → B) (xs : List A) (d : A) (k : ℕ) → get_or (map f xs) k (f d) ≡ f (get_or xs k d)
+get_or_map f [] d k = refl
+get_or_map f (x ∷ xs) d zero = refl
+get_or_map f (x ∷ xs) d (suc k) = get_or_map f xs d k
 
-pub get_d_same : {A : Type 0} (n : ℕ) (d : A) (k : ℕ) → get_or (replicate n d) k d ≡ d
-get_d_same zero d k = refl
-get_d_same (suc n) d zero = refl
-get_d_same (suc n) d (suc k) = get_d_same n d k
+pub get_or_same : {A : Type 0} (n : ℕ) (d : A) (k : ℕ) → get_or (replicate n d) k d ≡ d
+get_or_same zero d k = refl
+get_or_same (suc n) d zero = refl
+get_or_same (suc n) d (suc k) = get_or_same n d k
 
-pub get_d_either : {A : Type 0} (n : ℕ) (a d : A) (k : ℕ) (P : A → Type 0) → P a → P d → P (get_or (replicate n a) k d)
-get_d_either zero a d k P x y = y
-get_d_either (suc n) a d zero P x y = x
-get_d_either (suc n) a d (suc k) P x y = get_d_either n a d k P x y
+pub get_or_either : {A : Type 0} (n : ℕ) (a d : A) (k : ℕ) (P : A → Type 0) → P a → P d → P (get_or (replicate n a) k d)
+get_or_either zero a d k P x y = y
+get_or_either (suc n) a d zero P x y = x
+get_or_either (suc n) a d (suc k) P x y = get_or_either n a d k P x y
 
 -- the list without its first n, filled up again with the default
-pub get_d_shift : {A : Type 0} (n : ℕ) (xs : List A) (d : A) (k : ℕ) → get_or (drop n xs ++ replicate n d) k d ≡ get_or xs (n + k) d
-get_d_shift n xs d k =
+pub get_or_shift : {A : Type 0} (n : ℕ) (xs : List A) (d : A) (k : ℕ) → get_or (drop n xs ++ replicate n d) k d ≡ get_or xs (n + k) d
+get_or_shift n xs d k =
     ⊎_elim
     (λ l. get_or_append_left (drop n xs) (replicate n d) d k l ∙ get_or-drop n xs k d)
-    (λ g. get_or-append_right (drop n xs) (replicate n d) (length (drop n xs)) k d refl g ∙ get_d_same n d _ ∙ sym (get_or_past xs (n + k) d (let e = length-drop n xs in omega arith)))
+    (λ g. get_or-append_right (drop n xs) (replicate n d) (length (drop n xs)) k d refl g ∙ get_or_same n d _ ∙ sym (get_or_past xs (n + k) d (let e = length-drop n xs in omega arith)))
     (cases_lt k (length (drop n xs)))
 
 pub length_shift : {A : Type 0} (n : ℕ) (xs : List A) (d : A) → n ≤ length xs → length (drop n xs ++ replicate n d) ≡ length xs

@@ -6,7 +6,7 @@ use Rattle.frame.specs.Numbers.{distance}
 use Rattle.rules.specs.Constants.{hold, window_size}
 use Rattle.rules.specs.Receiving.{Bdu, Place, Receiving, Answer, empty, window, awaited, received, place, any, past_last, contradicts, added, packet, settled, bring, aged, slot}
 use Rattle.rules.specs.ReceivingLaws.{Brought, Tidy, NeverWhole, Awaits, AfterLast, BeforeHeld, Contradicts, Answers, BringAnswers}
-use Rattle.rules.proofs.Lists.{never, set_keeps, map_keeps, get_d_same}
+use Rattle.rules.proofs.Lists.{never, set_keeps, map_keeps, get_or_same}
 
 -- ## after any calls
 
@@ -45,7 +45,7 @@ tidy_slot V h now =
     }
 
 tidy : {V : Receiving} → Brought V → Tidy V
-tidy Brought.start = record { flags = refl; places = refl; partial = λ p. ap packet (get_d_same 16 empty p) }
+tidy Brought.start = record { flags = refl; places = refl; partial = λ p. ap packet (get_or_same 16 empty p) }
 tidy (Brought.data_came {V} b n u now) = tidy_brought V (tidy b) n u now
 tidy (Brought.slot_came {V} b now) = tidy_slot V (tidy b) now
 

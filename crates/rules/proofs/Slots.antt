@@ -5,7 +5,7 @@ use Rattle.std.proofs.lemmas.List.{length-map}
 use Rattle.rules.specs.Constants.{lifetime, rest}
 use Rattle.rules.specs.Sending.{BduKey, Mark, Progress, Standing, Outgoing, Sending, blank, mark, packet, place, pieces, is_late, rested, aged, older, left, slotted}
 use Rattle.rules.specs.SendingLaws.{Has}
-use Rattle.rules.proofs.Lists.{never, get_d_map}
+use Rattle.rules.proofs.Lists.{never, get_or_map}
 use Rattle.rules.proofs.States.{Carries, Of, Kept}
 
 -- what is pending after a slot was so before, and is not late
@@ -44,8 +44,8 @@ left_still now ps m b f x =
 pub kept_slotted : (now : ℕ) (S : Sending) → Kept S → Kept (slotted now S)
 kept_slotted now S h =
     let T : Sending = slotted now S in
-    let at : (p : ℕ) → packet T p ≡ older now (packet S p) = get_d_map (older now) S.packets blank in
-    let marks : (k : ℕ) → mark T k ≡ left now S.packets (mark S k) = get_d_map (left now S.packets) S.window Mark.Unused in
+    let at : (p : ℕ) → packet T p ≡ older now (packet S p) = get_or_map (older now) S.packets blank in
+    let marks : (k : ℕ) → mark T k ≡ left now S.packets (mark S k) = get_or_map (left now S.packets) S.window Mark.Unused in
     let was : (k : ℕ) (b : BduKey) → Has T k b → Has S k b × (is_late now (packet S (place b)).standing ≡ false) =
     λ k b x. left_carries now S.packets (mark S k) b (subst (λ m. Carries m b) (marks k) x) in
     record {

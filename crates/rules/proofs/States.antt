@@ -5,7 +5,7 @@ use Rattle.rules.specs.Constants.{window_size, packet_room}
 use Rattle.rules.specs.Sending.{BduKey, Mark, Progress, Standing, Outgoing, Sending, blank, empty, new, mark, packet, place, pieces, turn, passed, accepted, Waits, is_open, opening, moved, sent}
 use Rattle.rules.specs.SendingLaws.{OfPending, Has, progress_of}
 use Rattle.rules.proofs.Order.{same_key}
-use Rattle.rules.proofs.Lists.{never, set_elim, get_d_same, get_d_either, first_passes, inside}
+use Rattle.rules.proofs.Lists.{never, set_elim, get_or_same, get_or_either, first_passes, inside}
 use Rattle.rules.proofs.Credit.{moved_keeps, moved_progress}
 use Rattle.rules.proofs.Leaving.{free_place}
 
@@ -41,10 +41,10 @@ same_place b c bl cl p r =
 pub kept_new : Kept new
 kept_new = record {
   sixteen = refl;
-  room = λ p since. get_d_either 16 empty blank p (λ o. o.standing ≡ Standing.Pending since → pieces o.octets ≤ length o.bdus) (λ e. never (cc)) (λ e. never (cc));
-  carried = λ k b x. never (let y = x.1 in let z = get_d_same window_size Mark.Unused k in cc);
-  once = λ j k b x. never (let y = x.1 in let z = get_d_same window_size Mark.Unused j in cc);
-  found = λ b x e. never (let z = get_d_either 16 empty blank (place b) (λ o. get_or o.bdus b.bsn Progress.Waiting ≡ Progress.Waiting) (get_d_same 8 Progress.Waiting b.bsn) refl in cc);
+  room = λ p since. get_or_either 16 empty blank p (λ o. o.standing ≡ Standing.Pending since → pieces o.octets ≤ length o.bdus) (λ e. never (cc)) (λ e. never (cc));
+  carried = λ k b x. never (let y = x.1 in let z = get_or_same window_size Mark.Unused k in cc);
+  once = λ j k b x. never (let y = x.1 in let z = get_or_same window_size Mark.Unused j in cc);
+  found = λ b x e. never (let z = get_or_either 16 empty blank (place b) (λ o. get_or o.bdus b.bsn Progress.Waiting ≡ Progress.Waiting) (get_or_same 8 Progress.Waiting b.bsn) refl in cc);
 }
 
 module _ (S : Sending) (h : Kept S) where
@@ -73,7 +73,7 @@ module _ (S : Sending) (h : Kept S) where
         once = h.once;
         found = λ b.
             set_elim S.packets at o blank (place b) (λ x. Of x.octets x.standing b → get_or x.bdus b.bsn Progress.Waiting ≡ Progress.OnItsWay → (k : ℕ) × Has S k b) within
-            (λ _ _ e. never (let z = get_d_same 8 Progress.Waiting b.bsn in cc)) (λ _. h.found b);
+            (λ _ _ e. never (let z = get_or_same 8 Progress.Waiting b.bsn in cc)) (λ _. h.found b);
       }
 
   -- one BDU goes on: it, or another one

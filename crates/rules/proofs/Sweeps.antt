@@ -1,7 +1,7 @@
 -- A loop that changes each element of a row in its turn.
 use Rattle.std.proofs.Common.{◌≡◌, ℕ, ◌+◌, ◌<◌, ◌≤◌, List, map, length, get_or, set, sym, refl, ap, ◌∙◌, arith, length-set}
-use Rattle.std.proofs.lemmas.List.{ext_get_or, length-map, get_or-map as get_d_mapped}
-use Rattle.rules.proofs.Lists.{set_elim, get_or-map}
+use Rattle.std.proofs.lemmas.List.{ext_get_or, length-map, get_or-map as get_or_mapped}
+use Rattle.rules.proofs.Lists.{set_elim, get_or_map}
 
 -- the first i elements of xs are changed: where show is what matters of an element, by f, which is told the place
 pub record Swept {A B : Type 0} (show : A → B) (d : A) (f : ℕ → B → B) (xs : List A) (i : ℕ) (ys : List A) : Type 0 where
@@ -31,7 +31,7 @@ module _ {A B : Type 0} (show : A → B) (d : A) (f : ℕ → B → B) (xs : Lis
   swept_all i ys s l zs n e =
       let m = length-map ys show in
       ext_get_or (show d) (map show ys) zs (omega (arith, s.long))
-      (λ k h. get_or-map show ys d k ∙ s.done k (omega (arith, s.long)) ∙ sym (e k (omega (arith, s.long))))
+      (λ k h. get_or_map show ys d k ∙ s.done k (omega (arith, s.long)) ∙ sym (e k (omega (arith, s.long))))
 
 -- where the whole of an element matters
 pub swept_same : {A : Type 0} (d : A) (f : ℕ → A → A) (xs : List A) (i : ℕ) (ys : List A) → Swept (λ x. x) d f xs i ys → length xs ≤ i → (zs : List A) → length zs ≡ length xs
@@ -44,7 +44,7 @@ swept_map show d f xs i ys s l =
     let n = length-map (map show xs) f in
     let o = length-map xs show in
     swept_all show d (λ k. f) xs i ys s l (map f (map show xs)) (omega arith)
-    (λ k h. get_d_mapped f (map show xs) k (show d) (show d) (omega arith) ∙ ap f (get_or-map show xs d k))
+    (λ k h. get_or_mapped f (map show xs) k (show d) (show d) (omega arith) ∙ ap f (get_or_map show xs d k))
 
 -- a loop that fills a row of n places: the first i are filled
 pub record Filled {A : Type 0} (d : A) (g : ℕ → A) (n i : ℕ) (ys : List A) : Type 0 where

@@ -5,8 +5,8 @@ use Rattle.std.proofs.lemmas.List.{length-map}
 use Rattle.rules.specs.Constants.{window_size}
 use Rattle.rules.specs.Sending.{Mark, Outgoing, Sending, first, is_open, opening, gap, told, is_old, judged, judge, is_acknowledged, lead, left}
 use Rattle.rules.specs.SendingLaws.{Called, UnusedLast}
-use Rattle.rules.proofs.Lists.{never, set_elim, get_d_map, get_d_same, get_d_shift, length_shift, first_most, first_least}
-use Rattle.rules.proofs.Credit.{get_d_judge, length_judge}
+use Rattle.rules.proofs.Lists.{never, set_elim, get_or_map, get_or_same, get_or_shift, length_shift, first_most, first_least}
+use Rattle.rules.proofs.Credit.{get_or_judge, length_judge}
 
 -- behind an unused entry there are only unused ones
 abbrev Last : List Mark → Type 0
@@ -35,14 +35,14 @@ left_unused now ps Mark.Returned e = never (cc)
 last_judge : (tell : ℕ → Bool) (now : ℕ) (ms : List Mark) → Last ms → Last (judge tell now ms)
 last_judge tell now ms =
     last_over ms (judge tell now ms)
-    (λ k e. judged_unused (get_or ms k Mark.Unused) (tell k) (is_old now (get_or ms k Mark.Unused)) (sym (get_d_judge tell now ms k) ∙ e))
-    (λ k e. get_d_judge tell now ms k ∙ ap (λ m. judged m (tell k) (is_old now m)) e)
+    (λ k e. judged_unused (get_or ms k Mark.Unused) (tell k) (is_old now (get_or ms k Mark.Unused)) (sym (get_or_judge tell now ms k) ∙ e))
+    (λ k e. get_or_judge tell now ms k ∙ ap (λ m. judged m (tell k) (is_old now m)) e)
 
 last_left : (now : ℕ) (ps : List Outgoing) (ms : List Mark) → Last ms → Last (map (left now ps) ms)
 last_left now ps ms =
     last_over ms (map (left now ps) ms)
-    (λ k e. left_unused now ps (get_or ms k Mark.Unused) (sym (get_d_map (left now ps) ms Mark.Unused k) ∙ e))
-    (λ k e. get_d_map (left now ps) ms Mark.Unused k ∙ ap (left now ps) e)
+    (λ k e. left_unused now ps (get_or ms k Mark.Unused) (sym (get_or_map (left now ps) ms Mark.Unused k) ∙ e))
+    (λ k e. get_or_map (left now ps) ms Mark.Unused k ∙ ap (left now ps) e)
 
 -- the first open entry is used
 last_sent : (ms : List Mark) (m : Mark) → (m ≡ Mark.Unused → ⊥) → let o : ℕ = first window_size (λ k. is_open (get_or ms k Mark.Unused)) in o < length ms → Last ms → Last (set ms o m)
@@ -60,7 +60,7 @@ lead_most : (ms : List Mark) → lead ms ≤ window_size
 lead_most ms = first_most window_size (λ k. not (is_acknowledged (get_or ms k Mark.Unused)))
 
 last_in : {c : ℕ} {S : Sending} → Called c S → (length S.window ≡ window_size) × Last S.window
-last_in (Called.begun c) = (refl, λ j k l e. get_d_same window_size Mark.Unused k)
+last_in (Called.begun c) = (refl, λ j k l e. get_or_same window_size Mark.Unused k)
 last_in (Called.accept h q octets ql some most room) = last_in h
 last_in (Called.send {c} {S} h count number b more octets S' s) =
     let w = last_in h in
@@ -73,7 +73,7 @@ last_in (Called.hear {c} {S} h R flag taken) =
     let nine : length ms ≡ window_size = length_judge (told (gap R S) flag) c S.window ∙ w.0 in
     let l = last_judge (told (gap R S) flag) c S.window w.1 in (
       length_shift (lead ms) ms Mark.Unused (let m = lead_most ms in omega arith) ∙ nine,
-      λ j k le e. get_d_shift (lead ms) ms Mark.Unused k ∙ l (lead ms + j) (lead ms + k) (omega arith) (sym (get_d_shift (lead ms) ms Mark.Unused j) ∙ e),
+      λ j k le e. get_or_shift (lead ms) ms Mark.Unused k ∙ l (lead ms + j) (lead ms + k) (omega arith) (sym (get_or_shift (lead ms) ms Mark.Unused j) ∙ e),
     )
 last_in (Called.slot {c} {S} h d later) =
     let w = last_in h in

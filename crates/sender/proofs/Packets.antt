@@ -9,14 +9,14 @@ use Rattle.rules.specs.Sending.{Outgoing, blank, place, moved}
 use Rattle.rules.specs.declared.window.BduKey.{BduKey}
 use Rattle.rules.specs.declared.window.Progress.{Progress}
 use Rattle.rules.specs.declared.window.Standing.{Standing}
-use Rattle.rules.proofs.Lists.{get_d_map}
+use Rattle.rules.proofs.Lists.{get_or_map}
 
 -- what stands at no place
 abbrev pub nothing : Packet
 nothing = record { standing = Standing.Free; len = 0; octets = []; bdus = [] }
 
 pub packet_at : (ps : List Packet) (p : ℕ) → get_or (map packet_of ps) p blank ≡ packet_of (get_or ps p nothing)
-packet_at ps p = get_d_map packet_of ps nothing p
+packet_at ps p = get_or_map packet_of ps nothing p
 
 pub packet_past : (ps : List Packet) (p : ℕ) → length ps ≤ p → get_or (map packet_of ps) p blank ≡ blank
 packet_past ps p h = packet_at ps p ∙ ap packet_of (get_or_past ps p nothing h)

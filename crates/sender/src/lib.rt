@@ -1,4 +1,6 @@
 //! The sending half of an end, one text for both directions.
+#![tactic(auto)]
+
 pub use choice::{Choice, ToSend};
 pub use sender::Sender;
 pub use set::PacketSet;

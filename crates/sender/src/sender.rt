@@ -31,7 +31,7 @@ pub struct Sender<D: Direction> {
 impl<D: Direction> Sender<D> {
     /// A half that was not used yet.
     pub fn new() -> Sender<D>
-        ensures { sending Number-as-Number result ≡ rule.new }
+        ensures { sending D.Number.Number result ≡ rule.new }
     {
         Sender {
             oldest: D::Number::from_octet(0),

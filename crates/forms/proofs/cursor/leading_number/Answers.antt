@@ -5,19 +5,19 @@ use Rattle.std.proofs.Common.{arith}
 
 pub value-requires : goal.value-requires
 value-requires c =
-    digits_front c.args.text.now _ c.count-digits-count.result (omega arith) c.count-digits-count.ensures.all
+    digits_front c.args.text.now _ c.count_digits-count.result (omega arith) c.count_digits-count.ensures.all
 
-pub returns-in-err-number : goal.returns-in-err-number
-returns-in-err-number c =
-    let p = err_from_is_err_and c.from-residual.result c.from-residual.ensures.1 in
-    let v = c.in-err-number.ensures in
+pub returns-in_err-number : goal.returns-in_err-number
+returns-in_err-number c =
+    let p = err_from_is_err_and c.from_residual.result c.from_residual.ensures.1 in
+    let v = c.in_err-number.ensures in
     rw (p.1, p.2)
-    (front_passes c.args.text.now c.count-digits-count.result _ c.count-digits-count.ensures.within c.count-digits-count.ensures.all v.0 v.1 v.2)
+    (front_passes c.args.text.now c.count_digits-count.result _ c.count_digits-count.ensures.within c.count_digits-count.ensures.all v.0 v.1 v.2)
 
 pub returns : goal.returns
 returns c =
-    let v = c.in-ok-number.ensures in (
-      c.count-digits-count.ensures.within,
-      front_writes c.args.text.now _ _ c.if-count-eq0.false c.count-digits-count.ensures.within c.count-digits-count.ensures.all v.0 v.1,
-      stops_behind c.args.text.now _ c.count-digits-count.ensures.stops,
+    let v = c.in_ok-number.ensures in (
+      c.count_digits-count.ensures.within,
+      front_writes c.args.text.now _ _ c.if-count-eq0.false c.count_digits-count.ensures.within c.count_digits-count.ensures.all v.0 v.1,
+      stops_behind c.args.text.now _ c.count_digits-count.ensures.stops,
     )

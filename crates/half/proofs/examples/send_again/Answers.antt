@@ -8,19 +8,19 @@ use Rattle.half.proofs.examples.send_again.Goals as goal
 
 pub returns : goal.returns
 returns g c =
-    let S0 : Sending = sending g.Number.Number c.new-sender.result in
-    let S1 : Sending = sending g.Number.Number c.accept.new.self in
-    let S2 : Sending = sending g.Number.Number c.go.new.sender in
-    let S3 : Sending = sending g.Number.Number c.hear.new.self in
-    let S4 : Sending = sending g.Number.Number c.go-early.new.sender in
-    let S5 : Sending = sending g.Number.Number c.hear-2.new.self in
-    let S6 : Sending = sending g.Number.Number c.go-late.new.sender in
-    let R = g.Number.Number.value c.from-octet.result in
+    let S0 : Sending = sending g.D.Number.Number c.new-sender.result in
+    let S1 : Sending = sending g.D.Number.Number c.accept.new.self in
+    let S2 : Sending = sending g.D.Number.Number c.go.new.sender in
+    let S3 : Sending = sending g.D.Number.Number c.hear.new.self in
+    let S4 : Sending = sending g.D.Number.Number c.go-early.new.sender in
+    let S5 : Sending = sending g.D.Number.Number c.hear-2.new.self in
+    let S6 : Sending = sending g.D.Number.Number c.go-late.new.sender in
+    let R = g.D.Number.Number.value c.from_octet.result in
     let a = accepts 2 10 (65 ∷ []) S0 new S1 c.accept.result c.new-sender.ensures c.accept.ensures.rule refl in
     let b = went 0 10 S1 (loaded 10) S2 (gone 10) c.go.result (Answer.Sent 0 (key 0) false (65 ∷ [])) a.1 c.go.ensures (goes 10) in
-    let d = hears R 11 0 0 S2 (gone 10) S3 c.hear.result b.1 c.from-octet.ensures c.hear.ensures.answer c.hear.ensures.rule refl in
+    let d = hears R 11 0 0 S2 (gone 10) S3 c.hear.result b.1 c.from_octet.ensures c.hear.ensures.answer c.hear.ensures.rule refl in
     let e = went 0 11 S3 (gone 10) S4 (gone 10) c.go-early.result Answer.NoneIdle d c.go-early.ensures waits in
-    let f = hears R 12 0 0 S4 (gone 10) S5 c.hear-2.result e.1 c.from-octet.ensures c.hear-2.ensures.answer c.hear-2.ensures.rule refl in
+    let f = hears R 12 0 0 S4 (gone 10) S5 c.hear-2.result e.1 c.from_octet.ensures c.hear-2.ensures.answer c.hear-2.ensures.rule refl in
     let h = went 0 12 S5 returned S6 again c.go-late.result (Answer.Sent 0 (key 0) false (65 ∷ [])) f c.go-late.ensures goes_again in
     let early = e.0 in
     let late = h.0 in

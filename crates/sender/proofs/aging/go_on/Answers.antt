@@ -7,7 +7,7 @@ use Rattle.sender.proofs.aging.go_on.Goals as goal
 pub returns-then-p-lt16 : goal.returns-then-p-lt16
 returns-then-p-lt16 c =
     let ps = c.args.packets.now in
-    let e = c.place-of-p.ensures in
+    let e = c.place_of-p.ensures in
     ap (λ p. map packet_of (set ps p c.advance.new.self)) e
     ∙ packets_moved c.args.b c.args.to ps c.advance.new.self
     (c.advance.ensures ∙ ap (λ p. with_bdus (set (get_or ps p nothing).bdus c.args.b.bsn c.args.to) (packet_of (get_or ps p nothing))) e)

@@ -11,5 +11,5 @@ loop-x-preserved c =
     let e = chosen_more (map packet_of c.args.packets.now) c.loop-x.x in
     let i = c.improve-best.ensures in
     let v = c.loop-x.invariant in
-    let b = c.bdu-at.ensures in
+    let b = c.bdu_at.ensures in
     cc

@@ -10,10 +10,10 @@ more-in bsn o = ltb (bsn + 1) (pieces o.octets)
 
 pub returns-then-p-lt16 : goal.returns-then-p-lt16
 returns-then-p-lt16 c =
-    let e = of_packet (λ o. length o.octets) c.args.packets.now (place c.args.b) c.place-of-p.result _ c.place-of-p.ensures refl in
-    let l = c.has-more.ensures.long in
+    let e = of_packet (λ o. length o.octets) c.args.packets.now (place c.args.b) c.place_of-p.result _ c.place_of-p.ensures refl in
+    let l = c.has_more.ensures.long in
     record {
-      more = of_packet (more-in c.args.b.bsn) c.args.packets.now (place c.args.b) c.place-of-p.result _ c.place-of-p.ensures c.has-more.ensures.more;
+      more = of_packet (more-in c.args.b.bsn) c.args.packets.now (place c.args.b) c.place_of-p.result _ c.place_of-p.ensures c.has_more.ensures.more;
       long = omega arith;
     }
 

@@ -4,8 +4,8 @@ use Rattle.rules.specs.Sending.{is_open}
 use Rattle.sender.proofs.Firsts.{first_is, first_none}
 use Rattle.sender.proofs.mark.first_open.Goals as goal
 
-pub returns-then-is-open : goal.returns-then-is-open
-returns-then-is-open c =
+pub returns-then-is_open : goal.returns-then-is_open
+returns-then-is_open c =
     record { most = omega arith; found = sym (first_is 9 (λ k. is_open (get_or c.args.window.now k Mark.Unused)) c.loop-k.k (omega arith) (search rules) c.loop-k.invariant) }
 
 pub returns : goal.returns

@@ -4,8 +4,8 @@ use Rattle.rules.specs.Sending.{is_acknowledged}
 use Rattle.sender.proofs.Firsts.{first_is, first_none}
 use Rattle.sender.proofs.mark.lead.Goals as goal
 
-pub returns-then-not-is-acknowledged : goal.returns-then-not-is-acknowledged
-returns-then-not-is-acknowledged c =
+pub returns-then-not-is_acknowledged : goal.returns-then-not-is_acknowledged
+returns-then-not-is_acknowledged c =
     record {
       most = omega arith;
       found = sym (first_is 9 (λ k. not (is_acknowledged (get_or c.args.window.now k Mark.Unused))) c.loop-k.k (omega arith) (search rules) c.loop-k.invariant);

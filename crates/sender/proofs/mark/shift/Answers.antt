@@ -1,7 +1,7 @@
 use Rattle.std.proofs.Common.{◌≡◌, ℕ, ◌+◌, List, ◌++◌, length, get_or, drop, replicate, sym, ap, ◌∙◌, arith, length-set, rules}
 use Rattle.std.proofs.lemmas.List.{ext_get_or}
 use Rattle.rules.specs.declared.window.Mark.{Mark}
-use Rattle.rules.proofs.Lists.{set_elim, get_d_shift, length_shift}
+use Rattle.rules.proofs.Lists.{set_elim, get_or_shift, length_shift}
 use Rattle.sender.proofs.mark.shift.Goals as goal
 
 pub loop-i-preserved : goal.loop-i-preserved
@@ -30,4 +30,4 @@ returns c =
     let long : length ws ≡ 9 = c.loop-i.invariant.long in
     let long0 : length w0 ≡ 9 = search rules in
     let same : length (drop m w0 ++ replicate m Mark.Unused) ≡ length w0 = length_shift m w0 Mark.Unused (let p = c.requires in omega arith) in
-    ext_get_or Mark.Unused ws (drop m w0 ++ replicate m Mark.Unused) (omega arith) (λ k l. c.loop-i.invariant.done k (omega arith) ∙ sym (get_d_shift m w0 Mark.Unused k))
+    ext_get_or Mark.Unused ws (drop m w0 ++ replicate m Mark.Unused) (omega arith) (λ k l. c.loop-i.invariant.done k (omega arith) ∙ sym (get_or_shift m w0 Mark.Unused k))

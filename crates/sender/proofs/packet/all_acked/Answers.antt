@@ -5,8 +5,8 @@ use Rattle.rules.specs.Sending.{is_acked}
 use Rattle.sender.proofs.Firsts.{first_is, first_none}
 use Rattle.sender.proofs.packet.all_acked.Goals as goal
 
-pub returns-then-not-is-acked : goal.returns-then-not-is-acked
-returns-then-not-is-acked c =
+pub returns-then-not-is_acked : goal.returns-then-not-is_acked
+returns-then-not-is_acked c =
     let f : ℕ → Bool = λ b. not (is_acked (get_or c.args.bdus.now b Progress.Waiting)) in
     let e = first_is c.args.count f c.loop-i.i (omega arith) (search rules) c.loop-i.invariant in
     sym (lt-leb c.args.count _ (omega arith))

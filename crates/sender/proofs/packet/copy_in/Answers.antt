@@ -17,7 +17,7 @@ loop-at-preserved c =
     let b = length-drop at p in
     let n : at + length part ≡ to = omega arith in
     let s : at + (to - at) ≡ to = omega arith in
-    let written : put_mid at (to - at) c.loop-at.memory c.copy-from-slice.new.self ≡ over c.loop-at.memory at part = search (rules, overwrites) in (
+    let written : put_mid at (to - at) c.loop-at.memory c.copy_from_slice.new.self ≡ over c.loop-at.memory at part = search (rules, overwrites) in (
       omega arith,
       written ∙ over_next m0 c.loop-at.memory (take at p) part at (length-take-le at p (omega arith)) c.loop-at.invariant.1
           ∙ ap (λ x. x ++ drop (at + length part) m0) (sym (take-add at (to - at) p) ∙ ap (λ k. take k p) s) ∙ ap (λ k. take to p ++ drop k m0) n,

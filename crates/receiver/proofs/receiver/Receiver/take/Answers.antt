@@ -7,21 +7,21 @@ pub returns-then-contradicts : goal.returns-then-contradicts
 returns-then-contradicts g c =
     record {
       rule = (
-        rows_are g.Number.Number c.args.self.now _ (bdu_of c.args.bdu.header c.args.bdu.payload.now) c.args.buffer.now true
+        rows_are g.D.Number.Number c.args.self.now _ (bdu_of c.args.bdu.header c.args.bdu.payload.now) c.args.buffer.now true
             (search rules) c.if-buffer-lt-ROOM.false c.if-not-awaits.ensures c.if-contradicts.ensures,
         refl,
       );
       kept = refl;
     }
 
-pub returns-in-default : goal.returns-in-default
-returns-in-default g c =
+pub returns-in_default : goal.returns-in_default
+returns-in_default g c =
     record {
       rule =
-          takes_held g.Number.Number c.args.self.now _ (bdu_of c.args.bdu.header c.args.bdu.payload.now) c.args.buffer.now false
+          takes_held g.D.Number.Number c.args.self.now _ (bdu_of c.args.bdu.header c.args.bdu.payload.now) c.args.buffer.now false
           (search rules) c.if-buffer-lt-ROOM.false c.if-not-awaits.ensures c.if-contradicts.ensures
           refl c.args.slot c.receive.new.self c.add.new.self c.hand_up.new.self c.hand_up.new.buffer c.receive.ensures c.add.ensures
-          c.in-default.ensures.packet c.in-default.ensures.place;
+          c.in_default.ensures.packet c.in_default.ensures.place;
       kept = tt;
     }
 
@@ -29,7 +29,7 @@ pub returns : goal.returns
 returns g c =
     record {
       rule =
-          takes_packet g.Number.Number c.args.self.now _ (bdu_of c.args.bdu.header c.args.bdu.payload.now) c.args.buffer.now false
+          takes_packet g.D.Number.Number c.args.self.now _ (bdu_of c.args.bdu.header c.args.bdu.payload.now) c.args.buffer.now false
           (search rules) c.if-buffer-lt-ROOM.false c.if-not-awaits.ensures c.if-contradicts.ensures
           refl c.args.slot c.receive.new.self c.add.new.self c.hand_up.new.self c.hand_up.new.buffer c.receive.ensures c.add.ensures
           c.in-Some.len c.in-Some.ensures.packet c.in-Some.ensures.place;

@@ -20,8 +20,8 @@ loop-p-init c = record { long = refl; done = λ k l. absurd (omega arith) }
 
 pub loop-p-preserved : goal.loop-p-preserved
 loop-p-preserved c =
-    filled_more false (whole-at c.args.self.now c.args.window.now c.args.packets.now) 16 c.loop-p.p c.loop-p.marks c.is-whole-with.result c.loop-p.invariant (omega arith)
-    (c.is-whole-with.ensures ∙ ap (λ x. is_whole (with_bdus x (packet_of (get_or c.args.packets.now c.loop-p.p nothing)))) c.credited-after.ensures)
+    filled_more false (whole-at c.args.self.now c.args.window.now c.args.packets.now) 16 c.loop-p.p c.loop-p.marks c.is_whole_with.result c.loop-p.invariant (omega arith)
+    (c.is_whole_with.ensures ∙ ap (λ x. is_whole (with_bdus x (packet_of (get_or c.args.packets.now c.loop-p.p nothing)))) c.credited-after.ensures)
 
 pub returns : goal.returns
 returns c =

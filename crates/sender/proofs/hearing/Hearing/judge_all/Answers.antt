@@ -1,7 +1,7 @@
 use Rattle.std.proofs.Common.{◌≡◌, ℕ, List, ap, arith, rules}
 use Rattle.rules.specs.Sending.{judged, judge, is_old}
 use Rattle.rules.specs.declared.window.Mark.{Mark}
-use Rattle.rules.proofs.Credit.{get_d_judge, length_judge}
+use Rattle.rules.proofs.Credit.{get_or_judge, length_judge}
 use Rattle.sender.specs.Hearings.{tells}
 use Rattle.sender.specs.declared.hearing.Hearing.{Hearing}
 use Rattle.rules.proofs.Sweeps.{swept_none, swept_more, swept_same}
@@ -23,4 +23,4 @@ returns c =
     let h : Hearing = c.args.self.now in
     let ms : List Mark = c.args.window.now in
     swept_same Mark.Unused (judged-by h) ms c.loop-k.k c.loop-k.window c.loop-k.invariant (omega arith) (judge (tells h) h.slot ms) (length_judge (tells h) h.slot ms)
-    (λ k l. get_d_judge (tells h) h.slot ms k)
+    (λ k l. get_or_judge (tells h) h.slot ms k)

@@ -5,4 +5,4 @@ use Rattle.sender.specs.Senders.{sending}
 use Rattle.sender.proofs.sender.Sender.next.Goals as goal
 
 pub returns : goal.returns
-returns g c = subst (Chosen (sending g.Number.Number c.args.self.now)) (sym c.best-of.ensures) (finds_next (sending g.Number.Number c.args.self.now))
+returns g c = subst (Chosen (sending g.D.Number.Number c.args.self.now)) (sym c.best_of.ensures) (finds_next (sending g.D.Number.Number c.args.self.now))

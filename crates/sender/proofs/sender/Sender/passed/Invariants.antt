@@ -5,4 +5,4 @@ use Rattle.sender.proofs.sender.Sender.passed.Given as goal
 
 abbrev pub invariant-loop-k : goal.invariant-loop-k
 invariant-loop-k g l =
-    (j : ℕ) → j < l.k → is_free (packet (sending g.Number.Number l.self) (4 * l.q + turn (sending g.Number.Number l.self) l.q j)).standing ≡ false
+    (j : ℕ) → j < l.k → is_free (packet (sending g.D.Number.Number l.self) (4 * l.q + turn (sending g.D.Number.Number l.self) l.q j)).standing ≡ false
