@@ -1,7 +1,7 @@
 -- The sending halves that the worked examples come by.
-use Rattle.std.proofs.Common.{◌≡◌, ℕ, false, List, [], ◌∷◌, refl, arith}
+use Rattle.std.proofs.Common.{◌≡◌, ℕ, false, [], ◌∷◌, refl, arith}
 use Rattle.rules.specs.Choice.{chosen}
-use Rattle.rules.specs.Examples.{key, loaded, gone, full, one_gone}
+use Rattle.rules.specs.Examples.{key, loaded, gone}
 use Rattle.rules.specs.Sending.{Sending, Answer, Sends, accepted, sent, heard, slotted}
 use Rattle.rules.proofs.Examples.{next, idle}
 use Rattle.sender.specs.Senders.{flagged}

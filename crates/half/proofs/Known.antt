@@ -1,5 +1,5 @@
 -- What a call of a half answers and leaves where the half before it is known.
-use Rattle.std.proofs.Common.{◌≡◌, ℕ, ◌<◌, Bool, true, false, List, [], ◌∷◌, length, Some, None, Ok, Err, Option, Result, sym, refl, ap, ◌∙◌, subst, arith}
+use Rattle.std.proofs.Common.{◌≡◌, ℕ, Bool, true, false, List, [], ◌∷◌, length, Some, None, Ok, Err, Option, Result, sym, refl, ap, ◌∙◌, subst, arith}
 use Rattle.frame.specs.Headers.{header_octet, HeaderWritten}
 use Rattle.frame.specs.declared.header.BduHeader.{BduHeader}
 use Rattle.frame.specs.declared.number.Number.{Ghosts}
@@ -10,7 +10,7 @@ use Rattle.rules.specs.Members.{Among}
 use Rattle.rules.specs.Sending.{Sending, Answer, Sends, turn, passed, accepted, heard, slotted, expired}
 use Rattle.rules.specs.declared.fault.EndFault.{EndFault}
 use Rattle.rules.proofs.SendAnswers.{one_answer}
-use Rattle.sender.specs.Senders.{answer_of, after_choice, payload_of, sent_by, Chooses, Fitting, accept_rows, Accepts, report_rows, flagged, Foretells, Hears}
+use Rattle.sender.specs.Senders.{answer_of, payload_of, sent_by, Chooses, Fitting, accept_rows, Accepts, report_rows, flagged, Foretells, Hears}
 use Rattle.sender.specs.declared.choice.Choice.{Choice}
 use Rattle.sender.specs.declared.choice.Choice.TheVariants.{Idle, Full, Shut, Next}
 use Rattle.sender.specs.declared.choice.ToSend.{ToSend}

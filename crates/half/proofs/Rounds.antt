@@ -1,5 +1,5 @@
 -- A receiving half that takes packets of one BDU one after the other.
-use Rattle.std.proofs.Common.{◌≡◌, ℕ, ◌+◌, ◌-◌, ◌*◌, ◌%◌, ◌<◌, ◌≤◌, Bool, true, false, cond, not, ◌&&◌, ltb, List, [], ◌∷◌, length, get_or, set, replicate, Some, None, Ok, Err, Result, sym, refl, ap, ◌∙◌, subst, arith}
+use Rattle.std.proofs.Common.{◌≡◌, ℕ, ◌+◌, ◌%◌, ◌<◌, true, false, cond, not, ◌&&◌, ltb, List, [], ◌∷◌, length, get_or, set, replicate, None, Ok, Err, Result, sym, ap, ◌∙◌, subst, arith}
 use Rattle.frame.specs.Numbers.{distance}
 use Rattle.rules.specs.Ends.{Rows, refused_by}
 use Rattle.rules.specs.Receiving.{Bdu, Receiving, Answer, empty, window, moved, contradicts, place, settled, added, packet, bring}

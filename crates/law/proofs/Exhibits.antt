@@ -12,13 +12,13 @@ use Rattle.rules.proofs.Choice.{finds_next}
 use Rattle.rules.proofs.Refusing.{test_decides}
 use Rattle.rules.specs.Members.{Among}
 use Rattle.law.specs.Kept.{told}
-use Rattle.law.specs.Log.{End, LogOn, Frame, Answer, Event, Shown, Log}
+use Rattle.law.specs.Log.{End, Frame, Answer, Event, Log}
 use Rattle.law.specs.Samples.{on, off, entry}
 use Rattle.law.specs.World.{Message, Wire, EndState, World}
 use Rattle.law.specs.WorldSteps.{Step, Reached}
 use Rattle.law.specs.LinkRuns.{Sender, flag, named, rules}
 use Rattle.law.specs.Exhibits.{still, Run, first_of, none_of, front, long, short, report_of, frame_of, lost_log, expiry_log, LostAndSentAgain, ExpiresAndGivesAgain}
-use Rattle.law.proofs.NeededSteps.{two, ended, world, show}
+use Rattle.law.proofs.NeededSteps.{ended, world, show}
 use Rattle.law.proofs.Sides.{both}
 
 -- ## worlds

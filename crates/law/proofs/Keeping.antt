@@ -9,7 +9,7 @@ use Rattle.law.proofs.Base.{never, same_bool}
 use Rattle.law.proofs.Runs.{kept}
 use Rattle.law.proofs.Sound.{link_sound}
 use Rattle.law.specs.Log.{End, other, LogOn, Frame, Answer, Entry, shown, Holds, Log}
-use Rattle.law.specs.Laws.{Hears, Arrived, QuietSince, Agree, Right, Keeps}
+use Rattle.law.specs.Laws.{Arrived, QuietSince, Agree, Right, Keeps}
 use Rattle.law.specs.Noted.{q_of, rn_of, Noted}
 use Rattle.law.specs.Logged.{Unrelated, ShowsSender, ShowsReceiver, Goes, Logged}
 use Rattle.law.specs.Kept.{LogsKeepLaws}

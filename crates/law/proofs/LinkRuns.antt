@@ -4,7 +4,7 @@ use Rattle.std.proofs.lemmas.List.FromFn.{length-map-range_with_len, get_or-map-
 use Rattle.std.proofs.lemmas.Bool.{cases_lt}
 use Rattle.rules.specs.declared.window.BduKey.{BduKey}
 use Rattle.rules.specs.Receiving.{Bdu}
-use Rattle.rules.specs.Sending.{new, mark, packet, pieces, turn, passed, accepted, Refused, is_acknowledged, confirmed}
+use Rattle.rules.specs.Sending.{new, mark, pieces, turn, passed, accepted, is_acknowledged, confirmed}
 use Rattle.rules.specs.Members.{Among}
 use Rattle.law.specs.Ledger.{Status, Packet, Report, Ledger, put}
 use Rattle.law.specs.Ledger as ledger

@@ -1,11 +1,11 @@
 -- Runs of ends over a channel are runs of the world: each octet frame underway is what it says.
-use Rattle.std.proofs.Common.{◌≡◌, ℕ, suc, ◌+◌, ◌-◌, ◌*◌, ◌/◌, ◌%◌, ◌^◌, ◌<◌, ◌≤◌, Bool, true, false, cond, not, ◌&&◌, ◌||◌, eqb, ltb, leb, ◌⊎◌, List, [], ◌∷◌, ◌++◌, map, length, get_or, take, drop, Some, None, Ok, Err, Result, sym, refl, ap, ◌∙◌, subst, inl, inr, ⊎_elim, arith}
+use Rattle.std.proofs.Common.{◌≡◌, ℕ, ◌+◌, ◌-◌, ◌*◌, ◌^◌, ◌<◌, ◌≤◌, Bool, true, false, cond, not, eqb, ltb, ◌⊎◌, List, [], ◌∷◌, map, length, get_or, Some, None, Ok, Err, Result, sym, refl, ap, ◌∙◌, subst, inl, inr, ⊎_elim, arith}
 use Rattle.std.proofs.lemmas.List.{take_all}
-use Rattle.std.proofs.lemmas.Bool.{cases_Bool, cases_eq, cases_lt, both_ways, not-true, not-false, ltb-true, ltb-false, leb-false, eqb-true, eqb-false, eq-eqb, ne_eqb, and_parts, and_from, or_parts, cond-true, cond-false}
+use Rattle.std.proofs.lemmas.Bool.{cases_eq, cases_lt, both_ways, not-true, not-false, ltb-false, leb-false, eqb-true, eqb-false, eq-eqb, and_parts, and_from, or_parts, cond-true, cond-false}
 use Rattle.frame.specs.Directions.{data_kind, report_kind, kind_octet}
 use Rattle.frame.specs.Flags.{marks_of, flags_octet}
 use Rattle.frame.specs.Frames.{kind_at, aircraft_at, log_on_at, number_at, header_at, payload_at}
-use Rattle.frame.specs.Headers.{Small, rn_of, q_of, more_of, bsn_of, header_of, header_octet}
+use Rattle.frame.specs.Headers.{Small, rn_of, q_of, more_of, bsn_of}
 use Rattle.frame.specs.Writing.{data_octets, report_octets}
 use Rattle.frame.specs.declared.header.BduHeader.{BduHeader}
 use Rattle.frame.specs.declared.kind.Way.{Way}
@@ -25,8 +25,8 @@ use Rattle.rules.specs.declared.fault.EndFault.TheVariants as fault
 use Rattle.rules.proofs.ReceivingLaws.{never_whole}
 use Rattle.rules.proofs.Refusing.{test_decides}
 use Rattle.rules.specs.Members.{Among}
-use Rattle.law.specs.Log.{End, other, LogOn, Frame, Answer, Event, Shown, Entry, Log}
-use Rattle.law.specs.Channels.{Channel, Underway, NoneAdded, Moves, Puts, Gives, GivesNone}
+use Rattle.law.specs.Log.{End, other, LogOn, Frame, Answer, Event, Log}
+use Rattle.law.specs.Channels.{Channel, Underway, NoneAdded, Moves, Puts, Gives}
 use Rattle.law.specs.Links.{State, way, held, entry, Only, LinkKeepsLaws}
 use Rattle.law.specs.Links as links
 use Rattle.law.specs.World.{Message, Wire, EndState, World, Shows}

@@ -1,6 +1,6 @@
 -- The run of the worked listing, step by step.
-use Rattle.std.proofs.Common.{◌≡◌, ℕ, ◌+◌, ◌<◌, ◌≤◌, Bool, true, false, ◌⊎◌, List, [], ◌∷◌, get_or, drop, replicate, Some, Ok, Err, Result, refl, subst, inl, inr, arith}
-use Rattle.frame.specs.declared.kind.Way.TheVariants.{Up, Down}
+use Rattle.std.proofs.Common.{◌≡◌, ℕ, false, List, [], ◌∷◌, get_or, drop, replicate, Some, Ok, refl, subst, inl, arith}
+use Rattle.frame.specs.declared.kind.Way.TheVariants.{Up}
 use Rattle.frame.proofs.Octets.{data_back, report_back}
 use Rattle.rules.proofs.Choice.{finds_next}
 use Rattle.rules.specs.Choice.{chosen, Chosen}
@@ -10,8 +10,8 @@ use Rattle.rules.specs.Receiving.{Bdu, Receiving}
 use Rattle.rules.specs.Receiving as receiving
 use Rattle.rules.specs.Sending.{Sending, accepted, sent, heard}
 use Rattle.rules.specs.declared.window.BduKey.{BduKey}
-use Rattle.law.specs.Log.{End, Event, Log}
-use Rattle.law.specs.Channels.{Channel, Underway}
+use Rattle.law.specs.Log.{End}
+use Rattle.law.specs.Channels.{Underway}
 use Rattle.law.specs.Links.{State, Step, Reached}
 use Rattle.law.specs.Listing.{ListingIsRun}
 use Rattle.law.specs.Samples.{good}

@@ -9,7 +9,6 @@ use Rattle.law.specs.Sound.{Taken, Sound}
 use Rattle.law.proofs.Base.{never, put_elim, put_at, put_off}
 use Rattle.law.proofs.Taking.{cell_cases}
 use Rattle.rules.specs.Receiving.{Bdu, Place, any, past_last, contradicts, added, gathered, packet}
-use Rattle.rules.specs.Sending.{piece}
 use Rattle.law.specs.ReceivingTie.{Body, shown, SamePlace, carried}
 use Rattle.law.proofs.ReceivingPieces.{option_cases, any_one, any_none, not_any, gathered_all, gathered_held, shown_none}
 

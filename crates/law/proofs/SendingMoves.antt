@@ -1,7 +1,5 @@
 -- What the clauses of the tie say by themselves, and when they go over to another sender.
-use Rattle.std.proofs.Common.{◌≡◌, ℕ, ◌<◌, ◌≤◌, true, false, ◌⊎◌, List, length, get_or, set, Option, refl, ap, ◌∙◌, inl, inr, ⊎_elim, arith}
-use Rattle.std.proofs.lemmas.Bool.{cases_lt}
-use Rattle.std.proofs.lemmas.List.{get_or_past}
+use Rattle.std.proofs.Common.{◌≡◌, ℕ, ◌<◌, ◌≤◌, true, false, ◌⊎◌, List, length, get_or, set, Option, refl, ◌∙◌, inl, inr, ⊎_elim, arith}
 use Rattle.law.specs.Ledger.{Status, Mark as Word, Use, Sender}
 use Rattle.rules.specs.declared.window.BduKey.{BduKey}
 use Rattle.rules.specs.declared.window.Mark.{Mark}

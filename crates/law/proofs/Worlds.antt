@@ -15,7 +15,7 @@ use Rattle.law.specs.ReceivingTie.{Body, SamePlace, Tied, carried}
 use Rattle.law.specs.ReceivingFollows.{Tells}
 use Rattle.law.proofs.ReceivingFollows.{follows}
 use Rattle.law.specs.Log.{End, other, LogOn, Frame, Answer, Event, Entry, shown, Holds, Log}
-use Rattle.law.specs.Laws.{Accepts, Sends}
+use Rattle.law.specs.Laws.{Sends}
 use Rattle.law.specs.Noted.{q_of, rn_of}
 use Rattle.law.specs.Logged.{Unrelated, ShowsSender, ShowsReceiver, Goes, Logged}
 use Rattle.law.specs.Kept.{told}

@@ -1,5 +1,5 @@
 -- Runs of two ends over a channel, by the rules of ends and the meaning of channels, and the law of the link for all of them.
-use Rattle.std.specs.Prelude.{◌≡◌, ℕ, ◌+◌, ◌^◌, ◌<◌, ◌≤◌, Bool, cond, List, [], ◌∷◌, map, Ok, Err, Result}
+use Rattle.std.specs.Prelude.{◌≡◌, ℕ, ◌+◌, ◌^◌, ◌<◌, ◌≤◌, cond, List, [], ◌∷◌, map, Ok, Err, Result}
 use Rattle.frame.specs.declared.kind.Way.{Way}
 use Rattle.frame.specs.declared.kind.Way.TheVariants.{Up, Down}
 use Rattle.std.specs.List.{range_with_len}

@@ -1,5 +1,4 @@
 -- The worked listing as a run of ends over a channel, octet by octet.
-use Rattle.law.specs.Log.{End}
 use Rattle.law.specs.Samples.{good}
 use Rattle.law.specs.Links.{State, Reached}
 

@@ -7,7 +7,7 @@ use Rattle.law.specs.Sound.{Settled}
 use Rattle.rules.specs.Constants.{rest, packet_room}
 use Rattle.rules.specs.declared.window.BduKey.{BduKey}
 use Rattle.rules.specs.declared.window.Mark.{Mark}
-use Rattle.rules.specs.Sending.{Sending, Answer, Sends, Refused, new, mark, packet, place, piece, pieces, opening, turn, passed, accepted, heard, confirmed, slotted, expired}
+use Rattle.rules.specs.Sending.{Sending, Answer, Sends, Refused, new, mark, place, piece, pieces, opening, turn, passed, accepted, heard, confirmed, slotted, expired}
 use Rattle.law.specs.SendingTie.{Holds, Tied, Reads}
 
 -- an accepted packet is the ledger's next one

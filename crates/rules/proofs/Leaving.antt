@@ -3,7 +3,7 @@ use Rattle.std.proofs.Common.{◌≡◌, ℕ, ◌+◌, ◌*◌, ◌<◌, Bool, t
 use Rattle.std.proofs.lemmas.Bool.{cases_Bool, cond-false}
 use Rattle.std.proofs.lemmas.List.{get_or-set_other}
 use Rattle.rules.specs.Constants.{lifetime, rest}
-use Rattle.rules.specs.Sending.{BduKey, Progress, Standing, Outgoing, Sending, Answer, blank, packet, place, is_free, turn, passed, accepted, Sends, moved, gap, told, is_whole, closed, places, heard, confirmed, is_late, rested, aged, older, slotted, expired, credits}
+use Rattle.rules.specs.Sending.{BduKey, Progress, Standing, Outgoing, Sending, Answer, blank, packet, is_free, turn, passed, accepted, Sends, moved, gap, told, is_whole, closed, places, heard, confirmed, is_late, rested, aged, older, slotted, expired, credits}
 use Rattle.rules.specs.Members.{Among}
 use Rattle.rules.specs.SendingLaws.{Stays, LeavesBy}
 use Rattle.rules.proofs.Lists.{never, get_or_map, first_passes, places_have, inside}

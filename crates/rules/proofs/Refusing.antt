@@ -1,8 +1,8 @@
 -- The test of a report decides whether the rule refuses it.
-use Rattle.std.proofs.Common.{◌≡◌, ℕ, ◌+◌, ◌<◌, ◌≤◌, Bool, true, false, not, ◌&&◌, ◌||◌, ltb, leb, ◌⊎◌, inl, inr, ⊎_elim, arith}
-use Rattle.std.proofs.lemmas.Bool.{cases_lt, both_ways, not-true, not_from_false, and_parts, and_from, or_cases, or_left, or_right, ltb-true, ltb-false, lt-ltb, leb-true}
-use Rattle.rules.specs.Reports.{astray, is_refused, Decided, TestDecides}
-use Rattle.rules.specs.Sending.{Sending, first, gap, told, was_sent, mark, Refused}
+use Rattle.std.proofs.Common.{◌≡◌, ℕ, ◌+◌, ◌≤◌, Bool, true, not, ◌&&◌, inl, inr, ⊎_elim, arith}
+use Rattle.std.proofs.lemmas.Bool.{cases_lt, both_ways, not-true, not_from_false, and_parts, and_from, or_cases, or_left, or_right, ltb-true, lt-ltb, leb-true}
+use Rattle.rules.specs.Reports.{astray, Decided, TestDecides}
+use Rattle.rules.specs.Sending.{Sending, gap, told, was_sent, mark}
 use Rattle.rules.proofs.Lists.{first_passes, first_least}
 
 -- a report tells of no entry further than eight behind its R

@@ -1,5 +1,5 @@
 -- The BDU to send, found by a search in one row: the best so far against the next one.
-use Rattle.std.specs.Prelude.{◌≡◌, ℕ, zero, suc, ◌+◌, ◌*◌, ◌/◌, ◌%◌, ◌≤◌, Bool, true, false, cond, ◌&&◌, ◌||◌, List, get_or, Some, None, Option, ◌==◌, nat_le, nat_lt, slice_index_or}
+use Rattle.std.specs.Prelude.{ℕ, zero, suc, ◌/◌, ◌%◌, Bool, true, false, cond, ◌&&◌, ◌||◌, List, get_or, Some, None, Option, ◌==◌, nat_le, nat_lt, slice_index_or}
 use Rattle.rules.specs.Sending.{BduKey, Progress, Standing, Outgoing, Sending, blank, place, pieces, is_pending, Next, Idle}
 
 -- the BDU x of the row: by q, then rn, then bsn

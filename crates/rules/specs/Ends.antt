@@ -1,5 +1,5 @@
 -- An end of the link and its six calls: what each answers, what the end is after it, and what it refuses, in order.
-use Rattle.std.specs.Prelude.{◌≡◌, ℕ, suc, ◌+◌, ◌*◌, ◌/◌, ◌%◌, ◌<◌, Bool, true, false, cond, not, ◌&&◌, ◌||◌, List, [], ◌∷◌, map, length, Some, None, Ok, Err, Option, Result, ◌==◌, nat_le, nat_lt, slice_index_or}
+use Rattle.std.specs.Prelude.{◌≡◌, ℕ, suc, ◌/◌, ◌%◌, Bool, true, false, cond, not, ◌&&◌, ◌||◌, List, [], ◌∷◌, map, length, Some, None, Ok, Err, Option, Result, ◌==◌, nat_le, nat_lt, slice_index_or}
 use Rattle.frame.specs.Beginnings.{FirstWrong}
 use Rattle.frame.specs.Flags.{marks_of, flags_octet}
 use Rattle.frame.specs.Frames.{Readable, CarriesData, CarriesReport}

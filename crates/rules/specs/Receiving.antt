@@ -1,5 +1,5 @@
 -- The receiving half of the link: what it holds, and its rules.
-use Rattle.std.specs.Prelude.{ℕ, zero, suc, ◌+◌, ◌-◌, ◌*◌, ◌%◌, Bool, true, false, cond, not, ◌&&◌, ◌||◌, List, [], ◌∷◌, ◌++◌, map, get_or, take, drop, replicate, is_some, Some, None, Option, nat_le, nat_lt, slice_index_or, slice_set}
+use Rattle.std.specs.Prelude.{ℕ, suc, ◌+◌, ◌*◌, Bool, true, false, cond, not, ◌&&◌, ◌||◌, List, [], ◌∷◌, ◌++◌, map, get_or, take, drop, replicate, is_some, Some, None, Option, nat_le, nat_lt, slice_index_or, slice_set}
 use Rattle.std.specs.List.{range_with_len}
 use Rattle.frame.specs.Numbers.{advanced, distance}
 use Rattle.rules.specs.Constants.{hold, window_size}

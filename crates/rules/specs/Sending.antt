@@ -1,5 +1,5 @@
 -- The sending half by its rules: what it holds, and what each call makes of it. Numbers on the lane are octets, so oldest is below 256.
-use Rattle.std.specs.Prelude.{◌≡◌, ℕ, zero, suc, ◌+◌, ◌-◌, ◌*◌, ◌/◌, ◌%◌, ◌<◌, ◌≤◌, Bool, true, false, cond, not, ◌&&◌, ◌||◌, ◌⊎◌, List, [], ◌∷◌, ◌++◌, map, length, get_or, drop, replicate, Some, None, Option, nat_le, nat_lt, slice_index, slice_index_or, slice_set}
+use Rattle.std.specs.Prelude.{◌≡◌, ℕ, zero, suc, ◌+◌, ◌-◌, ◌*◌, ◌%◌, ◌<◌, ◌≤◌, Bool, true, false, cond, not, ◌&&◌, ◌||◌, ◌⊎◌, List, [], ◌∷◌, ◌++◌, map, length, get_or, drop, replicate, Some, None, nat_le, nat_lt, slice_index, slice_index_or, slice_set}
 pub use Rattle.rules.specs.declared.window.BduKey.{BduKey}
 pub use Rattle.rules.specs.declared.window.Mark.{Mark}
 pub use Rattle.rules.specs.declared.window.Progress.{Progress}

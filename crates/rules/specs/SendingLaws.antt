@@ -1,5 +1,5 @@
 -- Laws of the sending half: what holds in every half that calls lead to, and by what a pending packet leaves.
-use Rattle.std.specs.Prelude.{◌≡◌, ℕ, ◌<◌, ◌≤◌, Bool, ◌⊎◌, List, [], ◌∷◌, length, Some, slice_index_or}
+use Rattle.std.specs.Prelude.{◌≡◌, ℕ, ◌<◌, ◌≤◌, Bool, ◌⊎◌, List, length, Some, slice_index_or}
 use Rattle.rules.specs.Members.{Among}
 use Rattle.rules.specs.Constants.{window_size, packet_room}
 use Rattle.rules.specs.Sending.{BduKey, Mark, Progress, Standing, Sending, Answer, new, mark, packet, place, pieces, turn, passed, accepted, Sends, Refused, heard, confirmed, slotted, expired}

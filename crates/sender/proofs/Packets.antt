@@ -1,5 +1,5 @@
 -- Packets of the code as the rules see them, place by place.
-use Rattle.std.proofs.Common.{◌≡◌, ℕ, ◌+◌, ◌*◌, ◌≤◌, List, [], map, length, get_or, take, set, sym, ap, ◌∙◌, arith}
+use Rattle.std.proofs.Common.{◌≡◌, ℕ, ◌*◌, ◌≤◌, List, [], map, length, get_or, take, set, sym, ap, ◌∙◌, arith}
 use lib.ListN.{length-map}
 use Rattle.std.proofs.lemmas.List.{map-set, set_past, get_or_past, drop_all}
 use Rattle.frame.specs.Packets.{bdus_in, part_at}

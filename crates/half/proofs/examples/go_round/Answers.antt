@@ -1,6 +1,5 @@
-use Rattle.std.proofs.Common.{◌≡◌, ℕ, ◌+◌, ◌<◌, false, List, [], ◌∷◌, length, sym, refl, ap, ◌∙◌, subst, arith}
+use Rattle.std.proofs.Common.{◌≡◌, ℕ, ◌+◌, ◌<◌, false, List, [], ◌∷◌, length, refl, ap, ◌∙◌, arith}
 use Rattle.frame.specs.declared.header.BduHeader.{BduHeader}
-use Rattle.rules.specs.Receiving.{Bdu}
 use Rattle.receiver.specs.Places.{bdu_of}
 use Rattle.receiver.specs.Receivers.{receiving}
 use Rattle.half.proofs.Rounds.{short, clean, ahead, next_one, next_clear, in_room, takes}

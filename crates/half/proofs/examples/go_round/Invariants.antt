@@ -1,4 +1,4 @@
-use Rattle.std.proofs.Common.{◌≡◌, ◌+◌, length}
+use Rattle.std.proofs.Common.{◌≡◌, length}
 use Rattle.receiver.specs.Receivers.{receiving}
 use Rattle.half.proofs.Rounds.{clean}
 use Rattle.half.proofs.examples.go_round.Given as goal

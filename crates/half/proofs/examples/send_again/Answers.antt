@@ -1,4 +1,4 @@
-use Rattle.std.proofs.Common.{◌≡◌, true, false, [], ◌∷◌, refl}
+use Rattle.std.proofs.Common.{false, [], ◌∷◌, refl}
 use Rattle.rules.specs.Examples.{loaded, gone, key}
 use Rattle.rules.specs.Sending.{Sending, Answer, new}
 use Rattle.sender.specs.Senders.{sending}

@@ -1,4 +1,4 @@
-use Rattle.std.proofs.Common.{◌≡◌, true, false, refl}
+use Rattle.std.proofs.Common.{true, false, refl}
 use Rattle.rules.specs.Examples.{long, full, one_gone, both_gone, key}
 use Rattle.rules.specs.Sending.{Answer, new, piece}
 use Rattle.rules.proofs.Examples.{more}

@@ -1,5 +1,5 @@
 use Rattle.std.proofs.Common.{refl, arith}
-use Rattle.rules.specs.Sending.{Outgoing, place, is_late}
+use Rattle.rules.specs.Sending.{place, is_late}
 use Rattle.sender.proofs.Packets.{of_packet, of_none}
 use Rattle.sender.proofs.aging.expires.Goals as goal
 

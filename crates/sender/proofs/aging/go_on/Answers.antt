@@ -1,5 +1,4 @@
-use Rattle.std.proofs.Common.{◌≡◌, map, get_or, set, sym, ap, ◌∙◌, subst, arith}
-use Rattle.rules.specs.Sending.{place, moved}
+use Rattle.std.proofs.Common.{map, get_or, set, ap, ◌∙◌, arith}
 use Rattle.sender.specs.Packets.{packet_of, with_bdus}
 use Rattle.sender.proofs.Packets.{nothing, packets_moved, packets_unmoved}
 use Rattle.sender.proofs.aging.go_on.Goals as goal

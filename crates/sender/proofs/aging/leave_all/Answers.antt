@@ -1,4 +1,4 @@
-use Rattle.std.proofs.Common.{ℕ, List, map, arith}
+use Rattle.std.proofs.Common.{List, map, arith}
 use Rattle.rules.specs.Sending.{Outgoing, left}
 use Rattle.rules.specs.declared.window.Mark.{Mark}
 use Rattle.rules.proofs.Lists.{get_or_map}

@@ -1,4 +1,4 @@
-use Rattle.std.proofs.Common.{◌≡◌, map, sym}
+use Rattle.std.proofs.Common.{map, sym}
 use Rattle.sender.specs.Packets.{packet_of}
 use Rattle.rules.proofs.Choice.{chosen_none, chosen_more}
 use Rattle.sender.proofs.choice.best_of.Goals as goal

@@ -1,8 +1,7 @@
-use Rattle.std.proofs.Common.{◌≡◌, ℕ, ◌+◌, ◌≤◌, Bool, ltb, length, sym, refl, subst, arith}
+use Rattle.std.proofs.Common.{ℕ, ◌+◌, Bool, ltb, length, sym, refl, arith}
 use Rattle.std.proofs.lemmas.Bool.{le-ltb}
 use Rattle.rules.specs.Sending.{Outgoing, place, pieces}
-use Rattle.sender.specs.Packets.{packet_of}
-use Rattle.sender.proofs.Packets.{of_packet, of_none, packet_at, packet_past, nothing}
+use Rattle.sender.proofs.Packets.{of_packet, of_none}
 use Rattle.sender.proofs.choice.has_more.Goals as goal
 
 abbrev more-in : ℕ → Outgoing → Bool

@@ -1,5 +1,5 @@
-use Rattle.std.proofs.Common.{refl, arith, rules}
-use Rattle.rules.specs.Sending.{Outgoing, place}
+use Rattle.std.proofs.Common.{refl, arith}
+use Rattle.rules.specs.Sending.{place}
 use Rattle.rules.specs.Choice.{since_of}
 use Rattle.sender.proofs.Packets.{of_packet, of_none}
 use Rattle.sender.proofs.choice.slot_of.Goals as goal

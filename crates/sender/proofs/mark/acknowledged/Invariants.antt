@@ -1,4 +1,4 @@
-use Rattle.std.proofs.Common.{ℕ, ◌+◌, false, get_or}
+use Rattle.std.proofs.Common.{◌+◌, false, get_or}
 use Rattle.rules.specs.Sending.{is_acknowledged}
 use Rattle.rules.specs.declared.window.Mark.{Mark}
 use Rattle.rules.proofs.Sweeps.{Filled}

@@ -1,4 +1,4 @@
-use Rattle.std.proofs.Common.{◌≡◌, ℕ, Bool, not, get_or, sym, arith, rules}
+use Rattle.std.proofs.Common.{ℕ, Bool, not, get_or, sym, arith, rules}
 use Rattle.std.proofs.lemmas.Bool.{lt-leb, le-leb}
 use Rattle.rules.specs.declared.window.Progress.{Progress}
 use Rattle.rules.specs.Sending.{is_acked}

@@ -1,4 +1,4 @@
-use Rattle.std.proofs.Common.{ℕ, false, map, get_or}
+use Rattle.std.proofs.Common.{false, get_or}
 use Rattle.rules.specs.Sending.{is_whole}
 use Rattle.sender.specs.Hearings.{tells, credit_of}
 use Rattle.sender.specs.Packets.{packet_of, with_bdus}

@@ -1,5 +1,5 @@
-use Rattle.std.proofs.Common.{◌≡◌, ℕ, Bool, not, ◌&&◌, ltb, get_or, sym, arith, rules}
-use Rattle.std.proofs.lemmas.Bool.{lt-ltb, le-ltb, or_right, or_from, or_left}
+use Rattle.std.proofs.Common.{ℕ, Bool, not, ◌&&◌, ltb, get_or, sym, arith, rules}
+use Rattle.std.proofs.lemmas.Bool.{lt-ltb, le-ltb, or_right, or_from}
 use Rattle.sender.specs.Hearings.{tells}
 use Rattle.rules.specs.Sending.{first, was_sent}
 use Rattle.rules.specs.declared.window.Mark.{Mark}

@@ -1,4 +1,4 @@
-use Rattle.std.proofs.Common.{◌≡◌, ℕ, List, ap, arith, rules}
+use Rattle.std.proofs.Common.{ℕ, List, ap, arith}
 use Rattle.rules.specs.Sending.{judged, judge, is_old}
 use Rattle.rules.specs.declared.window.Mark.{Mark}
 use Rattle.rules.proofs.Credit.{get_or_judge, length_judge}

@@ -1,4 +1,3 @@
-use Rattle.std.proofs.Common.{ℕ}
 use Rattle.rules.specs.Sending.{judged, is_old}
 use Rattle.rules.specs.declared.window.Mark.{Mark}
 use Rattle.sender.specs.Hearings.{tells}

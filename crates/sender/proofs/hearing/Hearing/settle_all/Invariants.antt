@@ -1,4 +1,4 @@
-use Rattle.std.proofs.Common.{ℕ, false, cond, get_or}
+use Rattle.std.proofs.Common.{false, cond, get_or}
 use Rattle.rules.specs.declared.window.Standing.{Standing}
 use Rattle.sender.specs.Hearings.{tells, credit_of}
 use Rattle.sender.specs.Packets.{packet_of}

@@ -1,4 +1,4 @@
-use Rattle.std.proofs.Common.{◌≡◌, ℕ, ◌-◌, List, length, take, ap, ◌∙◌, arith, rules}
+use Rattle.std.proofs.Common.{◌≡◌, ◌-◌, length, take, ap, ◌∙◌, arith, rules}
 use Rattle.frame.specs.Packets.{part_at}
 use Rattle.frame.proofs.Parts.{take_min}
 use Rattle.sender.specs.Packets.{octets_of}

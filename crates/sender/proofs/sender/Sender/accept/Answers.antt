@@ -1,4 +1,4 @@
-use Rattle.std.proofs.Common.{◌≡◌, ◌<◌, subst, arith, rules}
+use Rattle.std.proofs.Common.{◌≡◌, ◌<◌, subst, arith}
 use Rattle.rules.specs.Sending.{Sending, turn, passed}
 use Rattle.sender.specs.Senders.{sending}
 use Rattle.sender.proofs.Answering.{accept_open, accepted_is}

@@ -1,4 +1,4 @@
-use Rattle.std.proofs.Common.{◌≡◌, sym, refl, ap, ◌∙◌, arith, rules}
+use Rattle.std.proofs.Common.{◌≡◌, sym, refl, ◌∙◌, arith}
 use Rattle.rules.specs.Sending.{Sending}
 use Rattle.sender.specs.Senders.{sending}
 use Rattle.sender.proofs.Answering.{chosen_sends, chosen_fits}

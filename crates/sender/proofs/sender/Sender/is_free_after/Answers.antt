@@ -1,5 +1,5 @@
-use Rattle.std.proofs.Common.{◌+◌, ◌*◌, ap, rules}
-use Rattle.rules.specs.Sending.{Outgoing, is_free, turn}
+use Rattle.std.proofs.Common.{◌+◌, ◌*◌, ap}
+use Rattle.rules.specs.Sending.{is_free, turn}
 use Rattle.sender.specs.Senders.{sending}
 use Rattle.sender.proofs.Packets.{of_packet}
 use Rattle.sender.proofs.sender.Sender.is_free_after.Goals as goal
