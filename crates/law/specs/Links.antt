@@ -41,7 +41,7 @@ shows e = record {
 
 -- an event with the slot, and what both ends show after it
 abbrev pub entry : State → Event → Entry
-entry s event = record { slot = s.channel.clock; event = event; ground = shows (s.ends End.Ground); air = shows (s.ends End.Air) }
+entry s event = record { slot = s.channel.clock; event = event; at_ground = shows (s.ends End.Ground); at_air = shows (s.ends End.Air) }
 
 -- what came of each call; a refusal, or a send of none, is quiet
 abbrev pub logged_on : {A : Type 0} → End → Result A EndFault → Event

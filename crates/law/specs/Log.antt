@@ -48,12 +48,12 @@ pub record Shown : Type 0 where
 pub record Entry : Type 0 where
   pub slot : ℕ
   pub event : Event
-  pub ground : Shown
-  pub air : Shown
+  pub at_ground : Shown
+  pub at_air : Shown
 
 abbrev pub shown : End → Entry → Shown
-shown End.Ground x = x.ground
-shown End.Air x = x.air
+shown End.Ground x = x.at_ground
+shown End.Air x = x.at_air
 
 -- the end e holds the log-on l, after x; only LoggedOn changes that
 abbrev pub Holds : End → LogOn → Entry → Type 0

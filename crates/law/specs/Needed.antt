@@ -26,8 +26,8 @@ but hears ticks = record {
 
 -- the delay of the ground's lane, and that of the air's
 abbrev pub delays : ℕ → ℕ → End → ℕ
-delays ground air End.Ground = ground
-delays ground air End.Air = air
+delays of_ground of_air End.Ground = of_ground
+delays of_ground of_air End.Air = of_air
 
 -- the delays of both lanes together are one slot at most: with one slot each, the rules as they are confirm a packet that was never handed up
 abbrev pub DelaysTwo : Type 0

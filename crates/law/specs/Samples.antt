@@ -15,7 +15,7 @@ abbrev pub end : LogOn → ℕ → ℕ → Shown
 end l a r = record { log_on = l; oldest = a; acknowledged = replicate 8 false; awaits = r; flags = replicate 8 false }
 
 abbrev pub entry : ℕ → Event → Shown → Shown → Entry
-entry slot event ground air = record { slot = slot; event = event; ground = ground; air = air }
+entry slot event at_ground at_air = record { slot = slot; event = event; at_ground = at_ground; at_air = at_air }
 
 -- both ends log on, and in slot 10 the ground accepts a packet of one octet and sends it
 abbrev pub sent : Log
