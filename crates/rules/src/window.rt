@@ -30,5 +30,5 @@ pub enum Progress {
 pub enum Standing {
     Free,
     Pending { since: u32 },
-    Resting { until: u64 },
+    Resting { until: u32 },
 }

@@ -8,12 +8,12 @@ use Rattle.sender.specs.declared.packet.Packet.{Packet}
 use Rattle.rules.specs.Sending.{Outgoing, blank, place, moved}
 use Rattle.rules.specs.declared.window.BduKey.{BduKey}
 use Rattle.rules.specs.declared.window.Progress.{Progress}
-use Rattle.rules.specs.declared.window.Standing.{Standing}
+use Rattle.sender.specs.declared.standing.Tenure.{Tenure}
 use Rattle.rules.proofs.Lists.{get_or_map}
 
 -- what stands at no place
 abbrev pub nothing : Packet
-nothing = record { standing = Standing.Free; len = 0; octets = []; bdus = [] }
+nothing = record { standing = Tenure.Free; len = 0; octets = []; bdus = [] }
 
 pub packet_at : (ps : List Packet) (p : ℕ) → get_or (map packet_of ps) p blank ≡ packet_of (get_or ps p nothing)
 packet_at ps p = get_or_map packet_of ps nothing p

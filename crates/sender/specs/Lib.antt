@@ -1,4 +1,5 @@
 pub mod Sets
+pub mod Standings
 pub mod Packets
 pub mod Hearings
 pub mod Senders

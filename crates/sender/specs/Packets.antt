@@ -6,13 +6,14 @@ use Rattle.sender.specs.declared.packet.Packet.{Packet}
 use Rattle.rules.specs.Sending.{Outgoing, pieces, is_pending, is_late}
 use Rattle.rules.specs.Choice.{is_waiting}
 use Rattle.rules.specs.declared.window.Standing.{Standing}
+use Rattle.sender.specs.Standings.{standing_of}
 use Rattle.rules.specs.declared.window.Progress.{Progress}
 
 abbrev pub octets_of : Packet → List ℕ
 octets_of p = take p.len p.octets
 
 abbrev pub packet_of : Packet → Outgoing
-packet_of p = record { standing = p.standing; octets = octets_of p; bdus = p.bdus }
+packet_of p = record { standing = standing_of p.standing; octets = octets_of p; bdus = p.bdus }
 
 -- a packet with its BDUs this far
 abbrev pub with_bdus : List Progress → Outgoing → Outgoing

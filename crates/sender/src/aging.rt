@@ -1,11 +1,12 @@
 //! The packets of a sending half and the numbers that carry them: what moves on, and what grows old.
 ghost use Rattle.std.specs.Prelude.{◌≡◌, map, slice_index_or};
+ghost use Rattle.sender.specs.Standings.{standing_of};
 ghost use Rattle.sender.specs.Packets.{packet_of, taken};
 ghost use Rattle.rules.specs.Sending as rule;
 
 use crate::packet::{Packet, place_of};
-use crate::standing::{is_late, is_pending};
-use rules::{BduKey, Mark, Progress, Standing};
+use crate::standing::Tenure;
+use rules::{BduKey, Mark, Progress};
 
 /// Which packets are asked for: those that are pending, or those that expire in a slot.
 #[derive(Clone, Copy)]
@@ -16,12 +17,12 @@ pub(crate) enum Which {
 
 impl Which {
     /// Whether a packet that stands so is asked for.
-    fn takes(self, standing: Standing) -> bool
-        ensures { result ≡ taken self standing }
+    fn takes(self, standing: Tenure) -> bool
+        ensures { result ≡ taken self (standing_of standing) }
     {
         match self {
-            Which::Pending => is_pending(standing),
-            Which::Late { slot } => is_late(standing, slot),
+            Which::Pending => standing.is_pending(),
+            Which::Late { slot } => standing.is_late(slot),
         }
     }
 }
@@ -53,7 +54,7 @@ fn expires(packets: &[Packet; 16], b: BduKey, slot: u32) -> bool
 {
     let p = place_of(b);
     if p < 16 {
-        is_late(packets[p].standing, slot)
+        packets[p].standing.is_late(slot)
     } else {
         false
     }

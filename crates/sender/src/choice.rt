@@ -5,7 +5,6 @@ ghost use Rattle.rules.specs.Choice.{nth, waiting, since, goes, better, chosen};
 ghost use Rattle.rules.specs.Sending as rule;
 
 use crate::packet::{Packet, place_of};
-use crate::standing::accepted_in;
 use frame::{BduHeader, Number};
 use rules::BduKey;
 
@@ -69,7 +68,7 @@ fn slot_of(packets: &[Packet; 16], b: BduKey) -> u32
 {
     let p = place_of(b);
     if p < 16 {
-        accepted_in(packets[p].standing)
+        packets[p].standing.accepted_in()
     } else {
         0
     }

@@ -1,13 +1,15 @@
 //! A packet of a sending half.
 ghost use Rattle.std.specs.Prelude.{◌≡◌, ◌+◌, ◌≤◌, not, length, take, replicate, if◌then◌else◌, nat_le, nat_lt, slice_index_or, slice_set};
 ghost use Rattle.frame.specs.Packets.{part_at};
+ghost use Rattle.rules.specs.declared.window.Standing.{Standing};
+ghost use Rattle.sender.specs.Standings.{standing_of};
 ghost use Rattle.sender.specs.Packets.{packet_of, octets_of, with_bdus, waits_in};
 ghost use Rattle.rules.specs.Choice.{is_waiting};
 ghost use Rattle.rules.specs.Sending as rule;
 
-use crate::standing::{aged, is_pending};
+use crate::standing::Tenure;
 use frame::part;
-use rules::{BduKey, Progress, Standing};
+use rules::{BduKey, Progress};
 
 /// The most octets of a packet.
 pub(crate) const LONGEST: usize = 424;
@@ -19,7 +21,7 @@ const PART: usize = 53;
 /// each of its BDUs is.
 #[derive(Clone, Copy)]
 pub(crate) struct Packet {
-    pub standing: Standing,
+    pub standing: Tenure,
     pub len: usize,
     pub octets: [u8; LONGEST],
     pub bdus: [Progress; 8],
@@ -95,7 +97,7 @@ impl Packet {
         ensures { packet_of result ≡ rule.empty }
     {
         Packet {
-            standing: Standing::Free,
+            standing: Tenure::Free,
             len: 0,
             octets: [0; LONGEST],
             bdus: [Progress::Waiting; 8],
@@ -114,7 +116,7 @@ impl Packet {
         copy_in(&mut self.octets, packet);
         self.len = packet.len();
         self.bdus = [Progress::Waiting; 8];
-        self.standing = Standing::Pending { since: slot };
+        self.standing = Tenure::Pending { since: slot };
     }
 
     /// How many BDUs it has.
@@ -130,7 +132,7 @@ impl Packet {
         ensures { result ≡ waits_in bsn (packet_of self.now) }
     {
         let n = bsn as usize;
-        if !is_pending(self.standing) || n >= self.count() {
+        if !self.standing.is_pending() || n >= self.count() {
             return false;
         }
         waits(self.bdus[n])
@@ -167,7 +169,7 @@ impl Packet {
     pub(crate) fn is_whole_with(&self, bdus: &[Progress; 8]) -> bool
         ensures { result ≡ rule.is_whole (with_bdus bdus.now (packet_of self.now)) }
     {
-        if !is_pending(self.standing) {
+        if !self.standing.is_pending() {
             return false;
         }
         all_acked(bdus, self.count())
@@ -176,14 +178,14 @@ impl Packet {
     /// After a report: its BDUs are this far, and its reference number is free if it is confirmed.
     pub(crate) fn settle(&mut self, bdus: [Progress; 8], confirmed: bool)
         ensures { packet_of self.new ≡ record {
-          standing = (if confirmed then Standing.Free else self.old.standing);
+          standing = (if confirmed then Standing.Free else standing_of self.old.standing);
           octets = octets_of self.old;
           bdus = bdus;
         } }
     {
         self.bdus = bdus;
         if confirmed {
-            self.standing = Standing::Free;
+            self.standing = Tenure::Free;
         }
     }
 
@@ -191,6 +193,6 @@ impl Packet {
     pub(crate) fn pass(&mut self, slot: u32)
         ensures { packet_of self.new ≡ rule.older slot (packet_of self.old) }
     {
-        self.standing = aged(self.standing, slot);
+        self.standing = self.standing.aged(slot);
     }
 }

@@ -14,7 +14,6 @@ use crate::hearing::Hearing;
 use crate::mark::{WINDOW, acknowledged, first_open, lead, put, shift};
 use crate::packet::{LONGEST, Packet, place_of};
 use crate::set::PacketSet;
-use crate::standing::is_free;
 use frame::{BduHeader, Direction, Flags, Number};
 use rules::{BduKey, EndFault, Mark, Progress, Report, Shown, frames_a_slot};
 
@@ -57,7 +56,7 @@ impl<D: Direction> Sender<D> {
             (4 * q + rule.turn (sending D.Number.Number self.now) q k)).standing }
     {
         let p = 4 * (q as usize) + self.rn_after(q, k) as usize;
-        is_free(self.packets[p].standing)
+        self.packets[p].standing.is_free()
     }
 
     /// How many reference numbers are passed over before the first free one; 4: none is free.

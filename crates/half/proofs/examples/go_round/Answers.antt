@@ -6,8 +6,8 @@ use Rattle.half.proofs.Rounds.{short, clean, ahead, next_one, next_clear, in_roo
 use Rattle.half.proofs.examples.go_round.Goals as goal
 
 -- what short answers is the BDU
-is-short : (h : BduHeader) (xs : List ℕ) → h ≡ record { rn = 0; q = 2; more = false; bsn = 0 } → xs ≡ 65 ∷ [] → bdu_of h xs ≡ short
-is-short h xs e f = ap (λ x. bdu_of x xs) e ∙ ap (bdu_of (record { rn = 0; q = 2; more = false; bsn = 0 })) f
+is_short : (h : BduHeader) (xs : List ℕ) → h ≡ record { rn = 0; q = 2; more = false; bsn = 0 } → xs ≡ 65 ∷ [] → bdu_of h xs ≡ short
+is_short h xs e f = ap (λ x. bdu_of x xs) e ∙ ap (bdu_of (record { rn = 0; q = 2; more = false; bsn = 0 })) f
 
 pub loop-k-init : goal.loop-k-init
 loop-k-init g c = (c.new-receiver.ensures, refl)
@@ -19,7 +19,7 @@ loop-k-preserved g c =
     let less : k < 255 = omega arith in (
       takes (g.D.Number.Number.value c.from_octet.result) k 10 (bdu_of c.short.result.header c.short.result.payload.now) short (receiving g.D.Number.Number c.loop-k.receiver) (clean k)
           (receiving g.D.Number.Number c.take.new.self) (clean (k + 1)) c.loop-k.buffer c.take.new.buffer c.take.result 2 0 (65 ∷ []) c.loop-k.invariant.0 c.from_octet.ensures
-          (is-short c.short.result.header c.short.result.payload.now c.short.ensures.header c.short.ensures.payload) c.take.ensures.rule (next_clear k (length c.loop-k.buffer) less room) (next_one k less),
+          (is_short c.short.result.header c.short.result.payload.now c.short.ensures.header c.short.ensures.payload) c.take.ensures.rule (next_clear k (length c.loop-k.buffer) less room) (next_one k less),
       let same = c.take.auto.buffer in omega arith,
     )
 
@@ -30,8 +30,8 @@ returns g c =
     let same : length c.take-2.new.buffer ≡ 424 = let k = c.take-2.auto.buffer in omega arith in
     let a = takes (g.D.Number.Number.value c.from_octet-2.result) 0 10 (bdu_of c.short-2.result.header c.short-2.result.payload.now) short (receiving g.D.Number.Number c.loop-k.receiver) (clean 255)
     (receiving g.D.Number.Number c.take-2.new.self) ahead c.loop-k.buffer c.take-2.new.buffer c.take-2.result 2 0 (65 ∷ []) (c.loop-k.invariant.0 ∙ ap clean last) c.from_octet-2.ensures
-    (is-short c.short-2.result.header c.short-2.result.payload.now c.short-2.ensures.header c.short-2.ensures.payload) c.take-2.ensures.rule (in_room (clean 255) 0 (length c.loop-k.buffer) room refl) refl in
+    (is_short c.short-2.result.header c.short-2.result.payload.now c.short-2.ensures.header c.short-2.ensures.payload) c.take-2.ensures.rule (in_room (clean 255) 0 (length c.loop-k.buffer) room refl) refl in
     let b = takes (g.D.Number.Number.value c.from_octet-3.result) 255 10 (bdu_of c.short-3.result.header c.short-3.result.payload.now) short (receiving g.D.Number.Number c.take-2.new.self) ahead
     (receiving g.D.Number.Number c.take-3.new.self) (clean 1) c.take-2.new.buffer c.take-3.new.buffer c.take-3.result 2 0 (65 ∷ []) a c.from_octet-3.ensures
-    (is-short c.short-3.result.header c.short-3.result.payload.now c.short-3.ensures.header c.short-3.ensures.payload) c.take-3.ensures.rule (in_room ahead 255 (length c.take-2.new.buffer) same refl) refl in
+    (is_short c.short-3.result.header c.short-3.result.payload.now c.short-3.ensures.header c.short-3.ensures.payload) c.take-3.ensures.rule (in_room ahead 255 (length c.take-2.new.buffer) same refl) refl in
     c.octet.ensures ∙ ap (λ x. x.0) c.report.ensures.said ∙ ap (λ V. V.oldest) b

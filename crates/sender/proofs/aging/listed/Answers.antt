@@ -1,6 +1,7 @@
 use Rattle.std.proofs.Common.{Bool, false, List, map, get_or, refl, ap, ◌∙◌, arith}
 use Rattle.std.proofs.lemmas.List.{length-map, get_or-map}
 use Rattle.rules.specs.Sending.{Outgoing, blank}
+use Rattle.sender.specs.Standings.{standing_of}
 use Rattle.sender.specs.Packets.{packet_of, taken}
 use Rattle.sender.specs.declared.packet.Packet.{Packet}
 use Rattle.sender.proofs.Packets.{nothing, packet_at}
@@ -12,7 +13,7 @@ loop-p-init c = record { long = refl; done = λ k l. absurd (omega arith) }
 
 pub loop-p-preserved : goal.loop-p-preserved
 loop-p-preserved c =
-    filled_more false (λ k. taken c.args.which (get_or c.args.packets.now k nothing).standing) 16 c.loop-p.p c.loop-p.marks c.takes.result c.loop-p.invariant (omega arith) c.takes.ensures
+    filled_more false (λ k. taken c.args.which (standing_of (get_or c.args.packets.now k nothing).standing)) 16 c.loop-p.p c.loop-p.marks c.takes.result c.loop-p.invariant (omega arith) c.takes.ensures
 
 pub returns : goal.returns
 returns c =
@@ -20,5 +21,5 @@ returns c =
     let test : Outgoing → Bool = λ o. taken c.args.which o.standing in
     let n = length-map ps packet_of in
     let m = length-map (map packet_of ps) test in
-    filled_all false (λ k. taken c.args.which (get_or ps k nothing).standing) 16 c.loop-p.p c.loop-p.marks c.loop-p.invariant (omega arith) (map test (map packet_of ps)) (omega arith)
+    filled_all false (λ k. taken c.args.which (standing_of (get_or ps k nothing).standing)) 16 c.loop-p.p c.loop-p.marks c.loop-p.invariant (omega arith) (map test (map packet_of ps)) (omega arith)
     (λ k l. get_or-map test (map packet_of ps) k blank false (omega arith) ∙ ap test (packet_at ps k))

@@ -12,15 +12,15 @@ use Rattle.sender.proofs.Packets.{nothing, packet_at}
 use Rattle.rules.proofs.Sweeps.{filled_more, filled_all}
 use Rattle.sender.proofs.hearing.Hearing.confirmed.Goals as goal
 
-abbrev whole-at : Hearing → List Mark → List Packet → ℕ → Bool
-whole-at h ms ps k = is_whole (with_bdus (credit_of k (tells h) h.slot ms (get_or ps k nothing).bdus 9) (packet_of (get_or ps k nothing)))
+abbrev whole_at : Hearing → List Mark → List Packet → ℕ → Bool
+whole_at h ms ps k = is_whole (with_bdus (credit_of k (tells h) h.slot ms (get_or ps k nothing).bdus 9) (packet_of (get_or ps k nothing)))
 
 pub loop-p-init : goal.loop-p-init
 loop-p-init c = record { long = refl; done = λ k l. absurd (omega arith) }
 
 pub loop-p-preserved : goal.loop-p-preserved
 loop-p-preserved c =
-    filled_more false (whole-at c.args.self.now c.args.window.now c.args.packets.now) 16 c.loop-p.p c.loop-p.marks c.is_whole_with.result c.loop-p.invariant (omega arith)
+    filled_more false (whole_at c.args.self.now c.args.window.now c.args.packets.now) 16 c.loop-p.p c.loop-p.marks c.is_whole_with.result c.loop-p.invariant (omega arith)
     (c.is_whole_with.ensures ∙ ap (λ x. is_whole (with_bdus x (packet_of (get_or c.args.packets.now c.loop-p.p nothing)))) c.credited-after.ensures)
 
 pub returns : goal.returns
@@ -32,7 +32,7 @@ returns c =
     let n = length-map ps packet_of in
     let m = length-map cs is_whole in
     let o = credit_length (tells h) h.slot ms (map packet_of ps) in
-    filled_all false (whole-at h ms ps) 16 c.loop-p.p c.loop-p.marks c.loop-p.invariant (omega arith) (map is_whole cs) (omega arith)
+    filled_all false (whole_at h ms ps) 16 c.loop-p.p c.loop-p.marks c.loop-p.invariant (omega arith) (map is_whole cs) (omega arith)
     (λ k l.
     get_or-map is_whole cs k blank false (omega arith) ∙ ap is_whole (credit_at (tells h) h.slot ms (map packet_of ps) k 9 (search rules))
     ∙ ap (λ (x : Outgoing). is_whole (with_bdus (credit_of k (tells h) h.slot ms x.bdus 9) x)) (packet_at ps k))
