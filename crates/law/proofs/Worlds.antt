@@ -301,7 +301,7 @@ module _ (S : Type 0) (Fresh : S → Type 0) (SentBy : S → ℕ → Sender → 
             ))
             (law live s (keeps (delay e) (delay (other e)) (lanes delay small e) e l old).0 x.0 x.1 late x.3)
 
-    -- a slot for all; the sending half's part are the premises `law`, for the half that e has, and `law-new`, for a new one
+    -- a slot for all; the sending half's part are the premises `law`, for the half that e has, and `law_new`, for a new one
     pub ticks : (y : Entry) → Unrelated e l y → (c : ℕ) → W.clock ≤ c
         → (L.tx.live ≡ true → SentBy (W.ends e).sender L.clock L.tx B → (st : ℕ → Status) × Ages L c st × SentBy (W'.ends e).sender c (ticked c st L).tx B)
         → (L.tx.live ≡ true → ((s : S) → Fresh s → SentBy s L.clock L.tx B) → (st : ℕ → Status) × Ages L c st × ((s : S) → Fresh s → SentBy s c (ticked c st L).tx B))

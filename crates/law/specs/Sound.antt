@@ -37,7 +37,7 @@ Agrees L r = record {
   marks : (n : ℕ) → n < L.tx.used → ((after L r n ≡ Mark.Acked → L.rx.got n ≡ true) × (L.rx.got n ≡ true → after L r n ≡ Mark.Acked));
 }
 
--- `flags`: eight flags above the oldest number not received suffice. `near-frames` and `near-reports`: a number that can still come is so near that its remainder by 256 tells it
+-- `flags`: eight flags above the oldest number not received suffice. `near_frames` and `near_reports`: a number that can still come is so near that its remainder by 256 tells it
 abbrev pub Sound : ℕ → ℕ → Ledger → Type 0
 Sound d1 d2 L = record {
   taken : (f : Frame) → L.rx.live ≡ true → Among f L.frames → L.clock ≤ f.slot + d1 → L.rx.got f.number ≡ false → Taken L f;

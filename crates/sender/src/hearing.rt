@@ -1,6 +1,6 @@
 //! What a report makes of the numbers and packets of a sending half.
 ghost use Rattle.std.specs.Prelude.{◌≡◌, not, ◌&&◌, map, length, slice_index_or};
-ghost use Rattle.sender.specs.Hearings.{tells as toldBy, step, credit_of, verdict};
+ghost use Rattle.sender.specs.Hearings.{tells as told_by, step, credit_of, verdict};
 ghost use Rattle.sender.specs.Packets.{packet_of};
 ghost use Rattle.sender.specs.Senders.{refused_of, Outcome};
 ghost use Rattle.rules.specs.Sending.{judge, credit, is_whole, closed, was_sent, is_old};
@@ -22,7 +22,7 @@ pub(crate) struct Hearing {
 impl Hearing {
     /// Whether the report acknowledges the number at a place of the window, or behind it.
     fn tells(&self, k: usize) -> bool
-        ensures { result ≡ toldBy self.now k }
+        ensures { result ≡ told_by self.now k }
     {
         let gap = self.gap as usize;
         if k < gap {
@@ -36,7 +36,7 @@ impl Hearing {
 
     /// What the report makes of the number at a place of the window.
     fn verdict(&self, window: &[Mark; WINDOW], k: usize) -> Verdict
-        ensures { result ≡ verdict (slice_index_or window.now k Mark.Unused) (toldBy self.now k)
+        ensures { result ≡ verdict (slice_index_or window.now k Mark.Unused) (told_by self.now k)
             (is_old self.now.slot (slice_index_or window.now k Mark.Unused)) }
     {
         let mark = entry(window, k);
@@ -45,7 +45,7 @@ impl Hearing {
 
     /// Whether the report acknowledges a number that is not out.
     fn is_astray(&self, window: &[Mark; WINDOW], k: usize) -> bool
-        ensures { result ≡ toldBy self.now k && not (was_sent (slice_index_or window.now k Mark.Unused)) }
+        ensures { result ≡ told_by self.now k && not (was_sent (slice_index_or window.now k Mark.Unused)) }
     {
         self.tells(k) && !was_sent(entry(window, k))
     }
@@ -67,7 +67,7 @@ impl Hearing {
 
     /// How far the BDUs of the packet at a place are after the report.
     fn credited(&self, window: &[Mark; WINDOW], place: usize, bdus: [Progress; 8]) -> [Progress; 8]
-        ensures { result ≡ credit_of place (toldBy self.now) self.now.slot window.now bdus 9 }
+        ensures { result ≡ credit_of place (told_by self.now) self.now.slot window.now bdus 9 }
     {
         let mut after = bdus;
         for k in 0..WINDOW {
@@ -79,7 +79,7 @@ impl Hearing {
     /// Which packets the report confirms.
     fn confirmed(&self, window: &[Mark; WINDOW], packets: &[Packet; 16]) -> [bool; 16]
         ensures { result ≡ map is_whole
-            (credit (toldBy self.now) self.now.slot window.now (map packet_of packets.now)) }
+            (credit (told_by self.now) self.now.slot window.now (map packet_of packets.now)) }
     {
         let mut marks = [false; 16];
         for p in 0..16 {
@@ -112,9 +112,9 @@ impl Hearing {
         packets: &mut [Packet; 16],
         confirmed: &[bool; 16],
     )
-        requires { confirmed.now ≡ map is_whole (credit (toldBy self.now) self.now.slot window.now (map packet_of packets.old)) }
+        requires { confirmed.now ≡ map is_whole (credit (told_by self.now) self.now.slot window.now (map packet_of packets.old)) }
         ensures { map packet_of packets.new ≡ map closed
-            (credit (toldBy self.now) self.now.slot window.now (map packet_of packets.old)) }
+            (credit (told_by self.now) self.now.slot window.now (map packet_of packets.old)) }
     {
         for p in 0..16 {
             let after = self.credited(window, p, packets[p].bdus);
@@ -124,7 +124,7 @@ impl Hearing {
 
     /// Judges all numbers of the window.
     pub(crate) fn judge_all(&self, window: &mut [Mark; WINDOW])
-        ensures { window.new ≡ judge (toldBy self.now) self.now.slot window.old }
+        ensures { window.new ≡ judge (told_by self.now) self.now.slot window.old }
     {
         for k in 0..WINDOW {
             window[k] = self.verdict(window, k).mark;
