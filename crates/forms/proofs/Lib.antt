@@ -2,8 +2,8 @@ pub mod Digits
 pub mod Fronts
 pub mod Limits
 pub mod Numerals
+pub mod OctetTexts
 pub mod Readings
 pub mod Sequences
 pub mod Slots
 pub mod Values
-pub mod OctetTexts

@@ -1,30 +1,23 @@
 -- Texts of lists of octets: how one grows, what can follow its beginning, and where a text stops to be the beginning of one.
-use Rattle.std.proofs.Common.{◌≡◌, ℕ, zero, suc, ◌+◌, ◌-◌, ◌*◌, ◌/◌, ◌%◌, ◌<◌, ◌≤◌, cond, List, [], ◌∷◌, ◌++◌, length, get_or, take, drop, is_ok, IfOk, Ok, Err, vec_items, Result, Vec, sym, refl, ap, ◌∙◌, subst, inl, inr, append_assoc, append-nil, arith, length-append}
+use Rattle.std.proofs.Common.{◌≡◌, ℕ, zero, suc, ◌+◌, ◌-◌, ◌*◌, ◌^◌, ◌/◌, ◌%◌, ◌<◌, ◌≤◌, List, [], ◌∷◌, ◌++◌, length, get_or, take, drop, false, Some, Ok, Err, vec_items, Result, Vec, sym, refl, ap, ◌∙◌, subst, inl, inr, append_assoc, append-nil, arith, length-append}
 use Rattle.frame.proofs.Departures.{one_place}
 use Rattle.frame.specs.Beginnings.{Begins, FirstWrong}
-use Rattle.std.proofs.lemmas.List.{get_or_past, take_all, take_more, length-take-le}
+use Rattle.std.specs.Fmt.{digits, digits_output, format_spec, styled_digits_output}
+use Rattle.std.specs.List.{flat_map}
+use Rattle.std.proofs.lemmas.Fmt.{hex_byte}
+use Rattle.std.proofs.lemmas.Grind.{flat_map-append}
+use Rattle.std.proofs.lemmas.List.{take_all, take_more, length-take-le}
 use Rattle.std.proofs.lemmas.Bool.Decides.{nat_tests}
 use Rattle.forms.specs.declared.octets.OctetsFault.{OctetsFault}
 use Rattle.forms.specs.declared.octets.OctetsFault.TheVariants.{Misfit, Memory}
 use Rattle.forms.specs.Octets.{digit, spaced_text, octets_text, AreOctets, IsOctets, NoDigit, Octet, HalfOctet, OctetAt, OctetsRead, Unread, ReadBack, TextTells}
 
-digit_past_space : (d : ℕ) → 32 < digit d
-digit_past_space d = grind (arith, nat_tests)
-
 digit_same : (d e : ℕ) → d < 16 → e < 16 → digit d ≡ digit e → d ≡ e
 digit_same d e l m h = grind (arith, nat_tests)
 
-no_digit_low : (c : ℕ) → c ≤ 32 → NoDigit c
-no_digit_low c l d h e = omega (arith, digit_past_space d)
-
--- behind a text stands no digit
-pub no_digit_past : (text : List ℕ) (place : ℕ) → length text ≤ place → NoDigit (get_or text place 0)
-no_digit_past text place past = let none = get_or_past text place 0 past in no_digit_low (get_or text place 0) (omega arith)
-
 -- octets, each before a space: what stands before one more octet
 abbrev pub heads : List ℕ → List ℕ
-heads [] = []
-heads (b ∷ bs) = digit (b / 16) ∷ digit (b % 16) ∷ 32 ∷ heads bs
+heads = flat_map (λ b. digit (b / 16) ∷ digit (b % 16) ∷ 32 ∷ [])
 
 spaced_push : (bs : List ℕ) (b : ℕ) → spaced_text (bs ++ b ∷ []) ≡ 32 ∷ octets_text (bs ++ b ∷ [])
 spaced_push [] b = refl
@@ -36,8 +29,7 @@ heads_then (c ∷ bs) b =
     ap (λ l. digit (c / 16) ∷ digit (c % 16) ∷ l) (ap (λ l. 32 ∷ l) (heads_then bs b) ∙ sym (spaced_push bs b))
 
 heads_push : (bs : List ℕ) (b : ℕ) → heads (bs ++ b ∷ []) ≡ heads bs ++ (digit (b / 16) ∷ digit (b % 16) ∷ 32 ∷ [])
-heads_push [] b = refl
-heads_push (c ∷ bs) b = ap (λ l. digit (c / 16) ∷ digit (c % 16) ∷ 32 ∷ l) (heads_push bs b)
+heads_push bs b = flat_map-append (λ c. digit (c / 16) ∷ digit (c % 16) ∷ 32 ∷ []) bs (b ∷ [])
 
 are_none : AreOctets []
 are_none k = omega arith
@@ -121,80 +113,89 @@ module _ (text bs : List ℕ) (place : ℕ) (sofar : Sofar text bs place) where
       let found = some_behind bs (high ∷ []) (omega (arith, length-append (heads bs) (high ∷ []))) wanted in
       omega (arith, ap length found.3))
 
-  module _ (b : ℕ) (octet : Octet text place b) where
-    behind : take (place + 2) text ≡ heads bs ++ octets_text (b ∷ [])
-    behind =
-        let one : take (place + 1) text ≡ heads bs ++ digit (b / 16) ∷ [] = take_more text place 0 (omega (arith, octet.within)) ∙ ap (λ l. l ++ get_or text place 0 ∷ []) sofar.before ∙ ap (λ c. heads bs ++ c ∷ []) octet.high in
-        let two : place + 2 ≡ place + 1 + 1 = omega arith in
-        ap (λ n. take n text) two ∙ take_more text (place + 1) 0 octet.within ∙ ap (λ l. l ++ get_or text (place + 1) 0 ∷ []) one ∙ append_assoc (heads bs) _ _ ∙ ap (λ c. heads bs ++ digit (b / 16) ∷ c ∷ []) octet.low
-
-    -- no space stands behind an octet
-    pub no_space : place + 2 < length text → (get_or text (place + 2) 0 ≡ 32 → ⊥) → FirstWrong IsOctets text (place + 2)
-    no_space inside bad =
-        wrong_at text (place + 2) (heads bs ++ octets_text (b ∷ [])) (omega arith) behind
-        ([], (bs ++ b ∷ [], are_push bs b sofar.octets octet.small, append-nil _ ∙ heads_then bs b))
-        (λ _ more wanted.
-        let whole = subst IsOctets (append_assoc (heads bs) (octets_text (b ∷ [])) (get_or text (place + 2) 0 ∷ more)) wanted in
-        let found = some_behind bs _ (omega (arith, length-append (heads bs) (octets_text (b ∷ []) ++ get_or text (place + 2) 0 ∷ more))) whole in
-        bad (first_space found.1 _ more (let e = found.3 in cc)))
-        (λ end wanted. omega arith)
-
-    module _ (more : List ℕ) (pushed : more ≡ bs ++ b ∷ []) where
-      octets_more : AreOctets more
-      octets_more = subst AreOctets (sym pushed) (are_push bs b sofar.octets octet.small)
-
-      -- a space stands behind it
-      pub one_more : place + 2 < length text → get_or text (place + 2) 0 ≡ 32 → Sofar text more (place + 2 + 1)
-      one_more inside space = record {
-        some = sofar.some;
-        within = omega arith;
-        before = take_more text (place + 2) 0 inside ∙ ap (λ l. l ++ get_or text (place + 2) 0 ∷ []) behind ∙ append_assoc (heads bs) _ _ ∙ ap (λ c. heads bs ++ digit (b / 16) ∷ digit (b % 16) ∷ c ∷ []) space ∙ sym (ap heads pushed ∙ heads_push bs b);
-        octets = octets_more;
-      }
-
-      -- it is the last
-      pub all_read : place + 2 ≡ length text → AreOctets more × (text ≡ octets_text more)
-      all_read end = (octets_more, sym (take_all (place + 2) text (omega arith)) ∙ behind ∙ heads_then bs b ∙ ap octets_text (sym pushed))
-
   -- what does not begin with an octet is wrong at the first character that is no digit
   pub no_octet : (e : OctetsFault) → OctetAt text place (Err e) → Unread text e
   no_octet (Misfit wrong) (inl (is, bad)) = subst (FirstWrong IsOctets text) (sym is) (no_high bad)
   no_octet (Misfit wrong) (inr (is, half)) = subst (FirstWrong IsOctets text) (sym is) (no_low half)
   no_octet Memory none = absurd none
 
--- the empty text is the list of no octets
-pub none_read : (text bs : List ℕ) → length text ≡ 0 → bs ≡ [] → AreOctets bs × (text ≡ octets_text bs)
-none_read [] bs none is = (subst AreOctets (sym is) are_none, ap octets_text (sym is))
-none_read (c ∷ text) bs none is = absurd (omega arith)
+-- a text up to a place is a list of octets, of one at least
+pub record Stands (text bs : List ℕ) (place : ℕ) : Type 0 where
+  pub within : place ≤ length text
+  pub before : take place text ≡ octets_text bs
+  pub octets : AreOctets bs
+  pub front : List ℕ
+  pub last : ℕ
+  pub is : bs ≡ front ++ last ∷ []
 
--- a digit is ASCII, so it is one octet of a text
-pub one_digit : (d c : ℕ) (encoded : List ℕ) → d < 16 → c ≡ digit d → (c < 128 → encoded ≡ c ∷ []) → encoded ≡ digit d ∷ []
-one_digit d c encoded small is ascii = let low : digit d < 128 = grind (arith, nat_tests) in ascii (omega arith) ∙ ap (λ x. x ∷ []) is
+-- one octet more
+pub octet_more : (text bs more : List ℕ) (place end b : ℕ) → Sofar text bs place → Octet text place b → more ≡ bs ++ b ∷ [] → end ≡ place + 2 → Stands text more end
+octet_more text bs more place end b sofar octet pushed two =
+    let one : take (place + 1) text ≡ heads bs ++ digit (b / 16) ∷ [] = take_more text place 0 (omega (arith, octet.within)) ∙ ap (λ l. l ++ get_or text place 0 ∷ []) sofar.before ∙ ap (λ c. heads bs ++ c ∷ []) octet.high in
+    let next : end ≡ place + 1 + 1 = omega arith in
+    let behind : take end text ≡ heads bs ++ octets_text (b ∷ [])
+    = ap (λ n. take n text) next ∙ take_more text (place + 1) 0 octet.within ∙ ap (λ l. l ++ get_or text (place + 1) 0 ∷ []) one ∙ append_assoc (heads bs) _ _ ∙ ap (λ c. heads bs ++ digit (b / 16) ∷ c ∷ []) octet.low in
+    record {
+      within = omega (arith, octet.within);
+      before = behind ∙ heads_then bs b ∙ ap octets_text (sym pushed);
+      octets = subst AreOctets (sym pushed) (are_push bs b sofar.octets octet.small);
+      front = bs;
+      last = b;
+      is = pushed;
+    }
 
--- two pieces, one behind the other, behind a text
-pub two_pushed : {T E : Type 0} (r : Result T E) (old was now one two : List ℕ) (a b : ℕ) → one ≡ a ∷ [] → two ≡ b ∷ [] → was ≡ old ++ one → now ≡ cond (is_ok r) (was ++ two) was → IfOk r (λ _. now ≡ old ++ a ∷ b ∷ [])
-two_pushed (Ok x) old was now one two a b first second once twice = twice ∙ (λ i. once i ++ second i) ∙ append_assoc old one (b ∷ []) ∙ ap (λ l. old ++ (l ++ b ∷ [])) first
-two_pushed (Err e) old was now one two a b first second once twice = tt
+-- before the first one
+pub start : (text : List ℕ) → (length text ≡ 0 → ⊥) → Sofar text [] 0
+start text some = record { some = omega (arith, some); within = omega arith; before = refl; octets = are_none }
 
-spaced_more : (bs : List ℕ) (b : ℕ) → spaced_text (bs ++ b ∷ []) ≡ spaced_text bs ++ 32 ∷ octets_text (b ∷ [])
-spaced_more [] b = refl
-spaced_more (c ∷ bs) b = ap (λ l. 32 ∷ digit (c / 16) ∷ digit (c % 16) ∷ l) (spaced_more bs b)
+module _ (text bs : List ℕ) (place : ℕ) (stands : Stands text bs place) where
+  -- no space stands behind the octets
+  pub no_space : place < length text → (get_or text place 0 ≡ 32 → ⊥) → FirstWrong IsOctets text place
+  no_space inside bad =
+      let heads_and : octets_text bs ≡ heads stands.front ++ octets_text (stands.last ∷ []) = ap octets_text stands.is ∙ sym (heads_then stands.front stands.last) in
+      wrong_at text place (octets_text bs) stands.within stands.before
+      ([], (bs, stands.octets, append-nil (octets_text bs)))
+      (λ _ more wanted.
+      let whole = subst IsOctets (ap (λ l. l ++ get_or text place 0 ∷ more) heads_and ∙ append_assoc (heads stands.front) (octets_text (stands.last ∷ [])) (get_or text place 0 ∷ more)) wanted in
+      let found = some_behind stands.front _ (omega (arith, length-append (heads stands.front) (octets_text (stands.last ∷ []) ++ get_or text place 0 ∷ more))) whole in
+      bad (first_space found.1 _ more (let e = found.3 in cc)))
+      (λ end wanted. omega arith)
+
+  -- a space stands behind them
+  pub spaced : place < length text → get_or text place 0 ≡ 32 → Sofar text bs (place + 1)
+  spaced inside space = record {
+    some = omega arith;
+    within = omega arith;
+    before = take_more text place 0 inside ∙ ap (λ l. l ++ get_or text place 0 ∷ []) (stands.before ∙ ap octets_text stands.is ∙ sym (heads_then stands.front stands.last)) ∙ append_assoc (heads stands.front) _ _ ∙ ap (λ c. heads stands.front ++ digit (stands.last / 16) ∷ digit (stands.last % 16) ∷ c ∷ []) space ∙ sym (ap heads stands.is ∙ heads_push stands.front stands.last);
+    octets = stands.octets;
+  }
+
+  -- a space, and one octet more
+  pub one_more : place < length text → get_or text place 0 ≡ 32 → (b : ℕ) (more : List ℕ) → Octet text (place + 1) b → more ≡ bs ++ b ∷ []
+      → Stands text more (place + 3)
+  one_more inside space b more octet pushed =
+      octet_more text bs more (place + 1) (place + 3) b (spaced inside space) octet pushed (omega arith)
+
+  -- nothing stands behind them
+  pub all_read : length text ≤ place → AreOctets bs × (text ≡ octets_text bs)
+  all_read end = (stands.octets, sym (take_all place text end) ∙ stands.before)
+
+-- what `{:02x}` prints of an octet
+pub octet_shown : (shown : _) (spec : _) (b : ℕ) → b < 256 → digits_output shown ≡ Some (digits 16 false b) → spec ≡ format_spec 32 0 4 2 (2 ^ 64 - 1)
+    → styled_digits_output shown spec ≡ Some (octets_text (b ∷ []))
+octet_shown shown spec b small is options = rw (options, is) (ap Some (hex_byte false b small))
 
 -- one more octet behind a space
-pub text_more : (rest : List ℕ) (i : ℕ) (start before spaced after encoded : List ℕ) → i < length rest → before ≡ start ++ spaced_text (take i rest) → encoded ≡ 32 ∷ [] → spaced ≡ before ++ encoded → after ≡ spaced ++ octets_text (get_or rest i 0 ∷ []) → after ≡ start ++ spaced_text (take (i + 1) rest)
-text_more rest i start before spaced after encoded inside was space once twice =
-    let b = get_or rest i 0 in
-    let done = spaced_text (take i rest) in
-    let longer : spaced_text (take (i + 1) rest) ≡ done ++ 32 ∷ octets_text (b ∷ []) = ap spaced_text (take_more rest i 0 inside) ∙ spaced_more (take i rest) b in
-    let whole : spaced ≡ (start ++ done) ++ 32 ∷ [] = once ∙ (λ j. was j ++ space j) in
-    twice ∙ ap (λ l. l ++ octets_text (b ∷ [])) whole ∙ append_assoc (start ++ done) (32 ∷ []) (octets_text (b ∷ [])) ∙ append_assoc start done (32 ∷ octets_text (b ∷ [])) ∙ ap (λ l. start ++ l) (sym longer)
+pub text_more : (rest : List ℕ) (i : ℕ) → i < length rest → spaced_text (take i rest) ++ 32 ∷ octets_text (get_or rest i 0 ∷ []) ≡ spaced_text (take (i + 1) rest)
+text_more rest i inside = sym (ap spaced_text (take_more rest i 0 inside) ∙ flat_map-append (λ b. 32 ∷ octets_text (b ∷ [])) (take i rest) (get_or rest i 0 ∷ []))
 
 -- the first octet, and all the others
-pub text_whole : (octets : List ℕ) (i : ℕ) (none start text : List ℕ) → 0 < length octets → length (take (length octets - 1) (drop 1 octets)) ≤ i → none ≡ [] → start ≡ none ++ octets_text (get_or octets 0 0 ∷ []) → text ≡ start ++ spaced_text (take i (take (length octets - 1) (drop 1 octets))) → text ≡ octets_text octets
-text_whole [] i none start text some all empty first is = absurd (omega arith)
-text_whole (b ∷ bs) i none start text some all empty first is =
+pub text_whole : (octets : List ℕ) (i : ℕ) → 0 < length octets → length (take (length octets - 1) (drop 1 octets)) ≤ i
+    → octets_text (get_or octets 0 0 ∷ []) ++ spaced_text (take i (take (length octets - 1) (drop 1 octets))) ≡ octets_text octets
+text_whole [] i some all = absurd (omega arith)
+text_whole (b ∷ bs) i some all =
     let others : take (length (b ∷ bs) - 1) bs ≡ bs = take_all _ bs (omega arith) in
-    is ∙ ap (λ l. start ++ spaced_text l) (take_all i _ all ∙ others) ∙ ap (λ l. l ++ spaced_text bs) (first ∙ ap (λ l. l ++ octets_text (b ∷ [])) empty)
+    ap (λ l. octets_text (b ∷ []) ++ spaced_text l) (take_all i _ all ∙ others)
 
 octet_same : (b c : ℕ) → b < 256 → c < 256 → digit (b / 16) ≡ digit (c / 16) → digit (b % 16) ≡ digit (c % 16) → b ≡ c
 octet_same b c small little high low =

@@ -1,9 +1,11 @@
 -- Where a text first departs from a sequence of words and numbers.
-use Rattle.std.proofs.Common.{◌≡◌, ℕ, suc, ◌+◌, ◌-◌, ◌*◌, ◌<◌, ◌≤◌, ◌⊎◌, List, [], ◌∷◌, ◌++◌, length, get_or, take, drop, sym, refl, ap, ◌∙◌, subst, inl, inr, arith}
+use Rattle.std.proofs.Common.{◌≡◌, ℕ, ◌+◌, ◌-◌, ◌*◌, ◌<◌, ◌≤◌, ◌⊎◌, List, [], ◌∷◌, ◌++◌, length, get_or, take, drop, sym, refl, ap, ◌∙◌, subst, inl, inr, arith}
 use Rattle.std.proofs.lemmas.List.{append_assoc, append_cancel_left, length-append, length-take, get_or_append_left, get_or-take, take-append-drop, take_at}
 use Rattle.std.proofs.lemmas.Bool.{cases_lt}
+use Rattle.std.proofs.lemmas.List.Sums.{fold-append}
+use Rattle.std.proofs.Math.Seq.{take-append-add}
 use Rattle.forms.proofs.Digits.{same_left, all_leading, digits_push}
-use Rattle.forms.proofs.Values.{value_from_push, value_grows}
+use Rattle.forms.proofs.Values.{value_grows}
 use Rattle.frame.specs.Beginnings.{Begins, FirstWrong}
 use Rattle.forms.specs.Forms.{IsDigit, value_from, Writes}
 use Rattle.forms.specs.Cursors.{Departs, Stops, NoNumber}
@@ -28,12 +30,6 @@ NoDigit Wanted = (text : List ℕ) → Wanted text → Stops text
 abbrev Alike : List ℕ → List ℕ → Type 0
 Alike rest text = 0 < length text → (0 < length rest) × (get_or text 0 0 ≡ get_or rest 0 0)
 
-take_past : (front rest : List ℕ) (p : ℕ) → take (length front + p) (front ++ rest) ≡ front ++ take p rest
-take_past [] rest p = ap (λ (n : ℕ). take n rest) (omega arith)
-take_past (c ∷ cs) rest p =
-    let e : suc (length cs) + p ≡ suc (length cs + p) = omega arith in
-    ap (λ (n : ℕ). take n (c ∷ (cs ++ rest))) e ∙ ap (λ (l : List ℕ). c ∷ l) (take_past cs rest p)
-
 -- the same forms, the same place
 pub same_wrong : (Wanted Meant : List ℕ → Type 0) (text : List ℕ) (p : ℕ) → ((t : List ℕ) → Wanted t → Meant t) → ((t : List ℕ) → Meant t → Wanted t)
     → FirstWrong Wanted text p → FirstWrong Meant text p
@@ -51,7 +47,7 @@ passed Whole Wanted front rest p join split w =
     let l : length (front ++ rest) ≡ length front + length rest = length-append front rest in
     let wi : p ≤ length rest = w.within in
     let again : (q : ℕ) (m : List ℕ) → take (length front + q) (front ++ rest) ++ m ≡ front ++ (take q rest ++ m)
-    = λ q m. ap (λ (t : List ℕ). t ++ m) (take_past front rest q) ∙ append_assoc front (take q rest) m in
+    = λ q m. ap (λ (t : List ℕ). t ++ m) (take-append-add front rest q) ∙ append_assoc front (take q rest) m in
     record {
       within = omega arith;
       before = (w.before.0, subst Whole (sym (again p w.before.0)) (join _ w.before.1));
@@ -120,7 +116,7 @@ too_large : (Wanted : List ℕ → Type 0) (digits left more : List ℕ) (c : �
 too_large Wanted digits left more c none lacks d a =
     let r = all_leading (digits ++ c ∷ []) more a.0 a.2 (digits_push digits c lacks.all d) (none a.2 a.5) a.4 in
     let over : 4294967295 < value_from 0 digits * 10 + (c - 48) = lacks.here (omega arith) d in
-    let push : value_from 0 (digits ++ c ∷ []) ≡ value_from 0 digits * 10 + (c - 48) = value_from_push 0 digits c in
+    let push : value_from 0 (digits ++ c ∷ []) ≡ value_from 0 digits * 10 + (c - 48) = fold-append (λ n d. n * 10 + (d - 48)) 0 digits (c ∷ []) in
     let grows : value_from 0 (digits ++ c ∷ []) ≤ value_from 0 ((digits ++ c ∷ []) ++ r.0) = value_grows 0 (digits ++ c ∷ []) r.0 in
     let same : value_from 0 a.0 ≡ value_from 0 ((digits ++ c ∷ []) ++ r.0) = ap (value_from 0) r.1 in
     let value : value_from 0 a.0 ≡ a.1 = a.3.value in
@@ -146,7 +142,7 @@ further : (Wanted : List ℕ → Type 0) (digits left : List ℕ) → NoDigit Wa
 further Wanted digits [] none lacks h b = omega (arith, simp length-append at h)
 further Wanted digits (c ∷ left) none lacks h b =
     let a : Numbered Wanted ((digits ++ c ∷ []) ++ b.0)
-    = subst (Numbered Wanted) (ap (λ (t : List ℕ). t ++ b.0) (take_past digits (c ∷ left) 1)) b.1 in
+    = subst (Numbered Wanted) (ap (λ (t : List ℕ). t ++ b.0) (take-append-add digits (c ∷ left) 1)) b.1 in
     elim (is_digit c) [
       | inl d ↦ too_large Wanted digits left b.0 c none lacks d a
       | inr not ↦ no_first Wanted digits b.0 c (lacks.none (λ _ d. not d)) not a

@@ -1,11 +1,10 @@
 -- The form `(slot N)` as a sequence of a word, a number and a word.
-use Rattle.std.proofs.Common.{◌≡◌, ℕ, zero, suc, ◌-◌, ◌<◌, ◌≤◌, List, [], ◌++◌, get_or, Ok, Err, codes, sym, refl, subst, arith}
-use Rattle.std.proofs.lemmas.List.{nil_from_length}
+use Rattle.std.proofs.Common.{◌≡◌, ℕ, zero, suc, ◌-◌, ◌<◌, ◌≤◌, List, [], ◌++◌, get_or, Err, codes, sym, refl, subst, arith}
 use Rattle.frame.specs.Beginnings.{FirstWrong}
 use Rattle.forms.specs.declared.fault.FormFault.{FormFault}
 use Rattle.forms.specs.declared.form.Form.TheVariants.{Slot}
-use Rattle.forms.specs.Forms.{IsDigit, Spells, IsForm}
-use Rattle.forms.specs.Cursors.{Stops, PassesWord, PassesNumber, FindsEnd, ReadsFront}
+use Rattle.forms.specs.Forms.{IsDigit, IsForm}
+use Rattle.forms.specs.Cursors.{Stops, Standing, ReadsFront}
 use Rattle.forms.proofs.Sequences.{After, Numbered, Ended, NoDigit, same_wrong}
 use Rattle.forms.proofs.Readings.{Refuses}
 
@@ -36,19 +35,9 @@ from_form : (text : List ℕ) → IsForm text → SlotForm text
 from_form text (Slot n, (digits, e, writes)) = (digits ++ codes ")", e, (digits, n, codes ")", writes, refl, closed))
 
 -- a refusal of the whole line
-pub refused : {text before : List ℕ} (from : ℕ) (fault : FormFault) → before ≡ text → from ≡ 0 → Refuses SlotForm before from fault → ReadsFront text (Err fault)
-refused {before = before} from fault e z r =
+pub refused : {text : List ℕ} (start : Standing) (fault : FormFault) → start.left ≡ text → start.passed ≡ 0 → Refuses SlotForm start fault → ReadsFront text (Err fault)
+refused start fault e z r =
     let place : fault.column - 1 ≡ r.0 = omega (arith, r.1) in
-    let wrong : FirstWrong IsForm before r.0 = same_wrong SlotForm IsForm before r.0 to_form from_form r.2 in
-    let there : FirstWrong IsForm before (fault.column - 1) = subst (FirstWrong IsForm before) (sym place) wrong in
+    let wrong : FirstWrong IsForm start.left r.0 = same_wrong SlotForm IsForm start.left r.0 to_form from_form r.2 in
+    let there : FirstWrong IsForm start.left (fault.column - 1) = subst (FirstWrong IsForm start.left) (sym place) wrong in
     (omega (arith, r.1), subst (λ (t : List ℕ). FirstWrong IsForm t (fault.column - 1)) e there)
-
--- the whole line read
-pub spelled : {text before a b d : List ℕ} {p q n : ℕ} (from s : ℕ) → before ≡ text → PassesWord (codes "(slot ") before a from p (Ok tt)
-    → PassesNumber a b p q (Ok n) → PassesWord (codes ")") b d q s (Ok tt) → FindsEnd d s (Ok tt) → Spells text (Slot n)
-spelled {d = d} from s e first number last done =
-    let nothing : d ≡ [] = nil_from_length d done in
-    let f = first.1 in
-    let g = number.4 in
-    let h = last.1 in
-    (number.0, cc, number.1)

@@ -1,9 +1,14 @@
 -- What a cursor finds where it stands in a line: a literal word, a number, or neither.
-use Rattle.std.specs.Prelude.{◌≡◌, ℕ, ◌+◌, ◌-◌, ◌*◌, ◌<◌, ◌≤◌, List, ◌++◌, length, take, drop, Ok, Err, Result, ◌≢◌, slice_index}
+use Rattle.std.specs.Prelude.{◌≡◌, ℕ, ◌+◌, ◌-◌, ◌*◌, ◌<◌, ◌≤◌, List, ◌++◌, length, take, Ok, Err, Result, ◌≢◌, slice_index}
 use Rattle.forms.specs.Forms.{IsDigit, value_from, Writes, Spells, IsForm}
 use Rattle.frame.specs.Beginnings.{FirstWrong}
 use Rattle.forms.specs.declared.form.Form.{Form}
 use Rattle.forms.specs.declared.fault.FormFault.{FormFault}
+
+-- where a cursor stands in a line: what is left of it, and how many characters have been passed
+pub record Standing : Type 0 where
+  pub left : List ℕ
+  pub passed : ℕ
 
 -- the place of the first character that departs from a word, or at which the text ends before the word does
 pub record Departs (text word : List ℕ) (place : ℕ) : Type 0 where
@@ -35,28 +40,26 @@ Value text (Err place) =
     (place < length text) × (value_from 0 (take place text) ≤ 4294967295)
     × (4294967295 < value_from 0 (take place text) * 10 + (slice_index text place - 48))
 
--- the number at the front of a text, and how many digits write it; or the place of the first character with which they write none
-abbrev pub LeadingNumber : List ℕ → Result (ℕ × ℕ) ℕ → Type 0
-LeadingNumber text (Ok p) = (p.1 ≤ length text) × Writes (take p.1 text) p.0 × Stops (drop p.1 text)
-LeadingNumber text (Err place) = (place ≤ length text) × NoNumber (take place text) (drop place text)
-
 -- a cursor passes a word at the front of what is left of a line, or says where that departs from it
-abbrev pub PassesWord : List ℕ → List ℕ → List ℕ → ℕ → ℕ → Result (Unit {0}) FormFault → Type 0
-PassesWord word before behind from to (Ok _) = (to ≡ from + length word) × (before ≡ word ++ behind)
-PassesWord word before behind from to (Err fault) = (place : ℕ) × (fault.column ≡ from + place + 1) × Departs before word place
+abbrev pub PassesWord : List ℕ → Standing → Standing → Result (Unit {0}) FormFault → Type 0
+PassesWord word before behind (Ok _) =
+    (behind.passed ≡ before.passed + length word) × (before.left ≡ word ++ behind.left)
+PassesWord word before behind (Err fault) =
+    (place : ℕ) × (fault.column ≡ before.passed + place + 1) × Departs before.left word place
 
 -- a cursor passes a number at the front of what is left of a line, or says where that departs from one
-abbrev pub PassesNumber : List ℕ → List ℕ → ℕ → ℕ → Result ℕ FormFault → Type 0
-PassesNumber before behind from to (Ok n) =
-    (digits : List ℕ) × Writes digits n × Stops behind × (to ≡ from + length digits) × (before ≡ digits ++ behind)
-PassesNumber before behind from to (Err fault) =
-    (digits : List ℕ) × (left : List ℕ) × NoNumber digits left × (fault.column ≡ from + length digits + 1)
-    × (before ≡ digits ++ left)
+abbrev pub PassesNumber : Standing → Standing → Result ℕ FormFault → Type 0
+PassesNumber before behind (Ok n) =
+    (digits : List ℕ) × Writes digits n × Stops behind.left × (behind.passed ≡ before.passed + length digits)
+    × (before.left ≡ digits ++ behind.left)
+PassesNumber before behind (Err fault) =
+    (digits : List ℕ) × (left : List ℕ) × NoNumber digits left × (fault.column ≡ before.passed + length digits + 1)
+    × (before.left ≡ digits ++ left)
 
 -- a cursor finds nothing left of a line, or says that something stands there
-abbrev pub FindsEnd : List ℕ → ℕ → Result (Unit {0}) FormFault → Type 0
-FindsEnd left from (Ok _) = length left ≡ 0
-FindsEnd left from (Err fault) = (0 < length left) × (fault.column ≡ from + 1)
+abbrev pub FindsEnd : Standing → Result (Unit {0}) FormFault → Type 0
+FindsEnd here (Ok _) = length here.left ≡ 0
+FindsEnd here (Err fault) = (0 < length here.left) × (fault.column ≡ here.passed + 1)
 
 -- the form that a text spells, or the column of the first character that fits none
 abbrev pub ReadsFront : List ℕ → Result Form FormFault → Type 0

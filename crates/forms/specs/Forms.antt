@@ -1,5 +1,5 @@
 -- The forms that linkrun reads, one a line.
-use Rattle.std.specs.Prelude.{◌≡◌, ℕ, ◌+◌, ◌-◌, ◌*◌, ◌<◌, ◌≤◌, List, [], ◌∷◌, ◌++◌, length, take, Ok, Err, codes, Result, slice_index}
+use Rattle.std.specs.Prelude.{◌≡◌, ℕ, ◌+◌, ◌-◌, ◌*◌, ◌<◌, ◌≤◌, List, ◌++◌, length, take, Ok, Err, codes, Result, slice_index, fold}
 use Rattle.frame.specs.Beginnings.{Begins}
 use Rattle.forms.specs.declared.form.Form.{Form}
 use Rattle.forms.specs.declared.form.Form.TheVariants.{Slot}
@@ -11,8 +11,7 @@ IsDigit c = (48 ≤ c) × (c ≤ 57)
 
 -- the number that decimal digits write, with what stands before them worth so much
 abbrev pub value_from : ℕ → List ℕ → ℕ
-value_from n [] = n
-value_from n (c ∷ cs) = value_from (n * 10 + (c - 48)) cs
+value_from = fold (λ n c. n * 10 + (c - 48))
 
 -- a text writes a number: one digit or more, leading zeros allowed, at most 4,294,967,295
 pub record Writes (text : List ℕ) (n : ℕ) : Type 0 where

@@ -1,5 +1,6 @@
 -- A list of octets as text: two lower-case hexadecimal digits each, with single spaces between.
 use Rattle.std.specs.Prelude.{◌≡◌, ℕ, ◌+◌, ◌/◌, ◌%◌, ◌<◌, cond, ◌⊎◌, List, [], ◌∷◌, length, Some, None, Ok, Err, vec_items, Option, Result, Vec, ◌≢◌, nat_lt, slice_index, slice_index_or}
+use Rattle.std.specs.List.{flat_map}
 use Rattle.frame.specs.Beginnings.{FirstWrong}
 use Rattle.forms.specs.declared.octets.OctetsFault.{OctetsFault}
 use Rattle.forms.specs.declared.octets.OctetsFault.TheVariants.{Misfit, Memory}
@@ -10,8 +11,7 @@ digit d = cond (nat_lt d 10) (48 + d) (87 + d)
 
 -- the octets behind the first one, each behind a space
 abbrev pub spaced_text : List ℕ → List ℕ
-spaced_text [] = []
-spaced_text (b ∷ bs) = 32 ∷ digit (b / 16) ∷ digit (b % 16) ∷ spaced_text bs
+spaced_text = flat_map (λ b. 32 ∷ digit (b / 16) ∷ digit (b % 16) ∷ [])
 
 -- the text of a list of octets
 abbrev pub octets_text : List ℕ → List ℕ

@@ -3,7 +3,7 @@ ghost use Rattle.std.specs.Prelude.{◌≡◌};
 ghost use Rattle.forms.specs.Refusals.{misread, refused};
 ghost use Rattle.forms.specs.declared.fault.SessionFault.TheVariants as faults;
 
-use frame::{Layer, Refusal};
+use frame::{Layer, Reason, Refusal};
 
 /// The first character that fits no form stands in this column, from 1. An early end counts as the character behind the last.
 #[derive(Clone, Copy)]
@@ -20,28 +20,26 @@ pub enum SessionFault {
     Slot,
 }
 
-impl FormFault {
-    /// The number, layer and place of this refusal.
-    pub fn refusal(self) -> Refusal
-        ensures { result ≡ misread self }
-    {
+impl From<FormFault> for Refusal {
+    ghost from_gives = { λ fault r. r ≡ misread fault };
+
+    fn from(fault: FormFault) -> Refusal {
         Refusal {
-            number: 13,
+            reason: Reason::Form,
             layer: Layer::Linkrun,
-            place: Some(self.column),
+            place: Some(fault.column),
         }
     }
 }
 
-impl SessionFault {
-    /// The number, layer and place of this refusal.
-    pub fn refusal(self) -> Refusal
-        ensures { result ≡ refused self }
-    {
-        match self {
-            SessionFault::Form(fault) => fault.refusal(),
+impl From<SessionFault> for Refusal {
+    ghost from_gives = { λ fault r. r ≡ refused fault };
+
+    fn from(fault: SessionFault) -> Refusal {
+        match fault {
+            SessionFault::Form(fault) => Refusal::from(fault),
             SessionFault::Slot => Refusal {
-                number: 1,
+                reason: Reason::Slot,
                 layer: Layer::Linkrun,
                 place: None,
             },

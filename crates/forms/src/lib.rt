@@ -4,7 +4,7 @@
 pub use fault::{FormFault, SessionFault};
 pub use form::Form;
 pub use line::without_newline;
-pub use octets::{OctetsFault, octets_text, read_back, read_octets};
+pub use octets::{Octets, OctetsFault, octets_text, read_back, read_octets};
 pub use read::read_form;
 pub use reply::Reply;
 pub use session::Session;

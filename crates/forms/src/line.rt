@@ -5,9 +5,5 @@ ghost use Rattle.forms.specs.Lines.{Said};
 pub fn without_newline(line: &[u8]) -> &[u8]
     ensures { Said line.now result.now }
 {
-    let len = line.len();
-    if len > 0 && line[len - 1] == b'\n' {
-        return &line[0..len - 1];
-    }
-    line
+    line.strip_suffix(b"\n").unwrap_or(line)
 }

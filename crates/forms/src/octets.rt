@@ -1,9 +1,10 @@
 //! Lists of octets as text: two lower-case hexadecimal digits each, with single spaces between.
-ghost use Rattle.std.specs.Prelude.{◌≡◌, ◌<◌, [], ◌∷◌, ◌++◌, IfOk, string_bytes, OnOk};
+ghost use Rattle.std.specs.Prelude.{◌≡◌, IfOk, string_bytes, Some};
 ghost use Rattle.forms.specs.declared.octets.OctetsFault.TheVariants.{Memory};
-ghost use Rattle.forms.specs.Octets.{digit, octets_text, DigitOf, DigitAt, OctetAt, OctetsRead, ReadBack, TextTells};
+ghost use Rattle.forms.specs.Octets.{octets_text, DigitOf, DigitAt, OctetAt, OctetsRead, ReadBack, TextTells};
 
 use std::alloc::{AllocError, AllocFailed, Global};
+use std::fmt;
 
 /// Why a text was not read as a list of octets.
 #[derive(Clone, Copy)]
@@ -34,6 +35,7 @@ impl<T: Drop> From<AllocFailed<T>> for OctetsFault {
 fn digit_value(character: u8) -> Option<u8>
     ensures { DigitOf character result }
 {
+    // `char::to_digit` would take `A` to `F` too.
     match character {
         b'0'..=b'9' => Some(character - b'0'),
         b'a'..=b'f' => Some(character - b'a' + 10),
@@ -45,13 +47,10 @@ fn digit_value(character: u8) -> Option<u8>
 fn digit_at(text: &[u8], place: usize) -> Result<u8, OctetsFault>
     ensures { DigitAt text.now place result }
 {
-    if place >= text.len() {
-        return Err(OctetsFault::Misfit { place });
-    }
-    match digit_value(text[place]) {
-        Some(digit) => Ok(digit),
-        None => Err(OctetsFault::Misfit { place }),
-    }
+    text.get(place)
+        .copied()
+        .and_then(digit_value)
+        .ok_or(OctetsFault::Misfit { place })
 }
 
 /// The octet whose two digits stand at a place of a text.
@@ -71,58 +70,44 @@ pub fn read_octets(heap: Global, text: &[u8]) -> Result<Vec<u8>, OctetsFault>
     if text.is_empty() {
         return Ok(octets);
     }
-    let mut place = 0;
-    loop {
-        let octet = octet_at(text, place)?;
-        octets.push(octet)?;
-        place += 2;
-        if place == text.len() {
-            return Ok(octets);
-        }
+    octets.push(octet_at(text, 0)?)?;
+    for place in (2..text.len()).step_by(3) {
         if text[place] != b' ' {
             return Err(OctetsFault::Misfit { place });
         }
-        place += 1;
+        octets.push(octet_at(text, place + 1)?)?;
     }
+    Ok(octets)
 }
 
-/// The character of a hexadecimal digit.
-fn digit_character(value: u8) -> char
-    requires { value < 16 }
-    ensures { result ≡ digit value }
-{
-    if value < 10 {
-        (b'0' + value) as char
-    } else {
-        (b'a' + (value - 10)) as char
-    }
-}
+/// A list of octets, to be printed as text.
+#[derive(Clone, Copy)]
+pub struct Octets<'a>(pub &'a [u8]);
 
-/// Puts the two digits of an octet behind a text.
-fn push_octet(text: &mut String, octet: u8) -> Result<(), AllocError>
-    ensures { OnOk result (string_bytes text.new ≡ string_bytes text.old ++ octets_text (octet ∷ [])) }
-{
-    text.push(digit_character(octet / 16))?;
-    text.push(digit_character(octet % 16))
+impl fmt::Display for Octets<'_> {
+    ghost output = { λ octets. Some (octets_text octets.0.now) };
+
+    fn fmt<W: fmt::Write>(&self, f: &mut fmt::Formatter<W>) -> fmt::Result {
+        let &[first, ref rest @ ..] = self.0 else {
+            return Ok(());
+        };
+        write!(f, "{first:02x}")?;
+        for &octet in rest {
+            write!(f, " {octet:02x}")?;
+        }
+        Ok(())
+    }
 }
 
 /// The text of a list of octets.
 pub fn octets_text(heap: Global, octets: &[u8]) -> Result<String, AllocError>
     ensures { IfOk result (λ s. string_bytes s ≡ octets_text octets.now) }
 {
-    let mut text = String::new(heap);
-    let [first, rest @ ..] = octets else {
-        return Ok(text);
-    };
-    push_octet(&mut text, *first)?;
-    for octet in rest {
-        text.push(' ')?;
-        push_octet(&mut text, *octet)?;
-    }
-    Ok(text)
+    Octets(octets).to_string(heap)
 }
 
 /// The octets that come back where a list of octets is written as text and that text is read: the same.
+#[tactic(auto, using(crate::proofs::OctetTexts::read_back, crate::proofs::OctetTexts::text_tells))]
 pub fn read_back(heap: Global, octets: &[u8]) -> Result<Vec<u8>, OctetsFault>
     ensures back { ReadBack octets.now result }
     ensures tells { TextTells }

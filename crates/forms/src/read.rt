@@ -21,6 +21,7 @@ fn read_slot(line: &[u8]) -> Result<Form, FormFault>
 
 /// Reads a line as a form, or says which column holds the first character that fits none. A line has at most 2,048
 /// characters; an early end counts as the character behind the last.
+#[tactic(auto, using(crate::proofs::Limits::too_long, crate::proofs::Limits::whole))]
 pub fn read_form(line: &[u8]) -> Result<Form, FormFault>
     ensures { Reads line.now result }
 {

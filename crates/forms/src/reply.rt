@@ -6,6 +6,7 @@ use frame::Refusal;
 use std::fmt;
 
 /// The answer to a line.
+// More forms will have answers of their own, which neither `Option` nor `Result` would name.
 #[derive(Clone, Copy)]
 pub enum Reply {
     /// The clock moved.
@@ -21,7 +22,7 @@ impl fmt::Display for Reply {
         match self {
             Reply::Slot => f.write_str("(slot)"),
             Reply::Refused(refusal) => {
-                let number = refusal.number;
+                let number = u8::from(refusal.reason);
                 match refusal.place {
                     Some(place) => write!(f, "(refused {number} {place})"),
                     None => write!(f, "(refused {number})"),

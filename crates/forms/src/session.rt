@@ -7,6 +7,7 @@ use crate::fault::SessionFault;
 use crate::form::Form;
 use crate::read::read_form;
 use crate::reply::Reply;
+use frame::Refusal;
 
 /// The clock goes no further than this slot.
 const LAST_SLOT: u32 = 4_000_000_000;
@@ -30,10 +31,8 @@ impl Session {
     pub fn answer(&mut self, line: &[u8]) -> Reply
         ensures { Answers self.old.clock line.now result self.new.clock }
     {
-        match self.act(line) {
-            Ok(reply) => reply,
-            Err(fault) => Reply::Refused(fault.refusal()),
-        }
+        self.act(line)
+            .unwrap_or_else(|fault| Reply::Refused(Refusal::from(fault)))
     }
 
     /// Reads a line, and performs the form that it spells.
@@ -57,7 +56,7 @@ impl Session {
     fn move_clock(&mut self, slot: u32) -> Result<Reply, SessionFault>
         ensures { Performs self.old.clock (Slot slot) result self.new.clock }
     {
-        if slot < self.clock || slot > LAST_SLOT {
+        if !(self.clock..=LAST_SLOT).contains(&slot) {
             return Err(SessionFault::Slot);
         }
         self.clock = slot;

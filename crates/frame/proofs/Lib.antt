@@ -3,3 +3,4 @@ pub mod Parts
 pub mod Marks
 pub mod Octets
 pub mod Departures
+pub mod Reading

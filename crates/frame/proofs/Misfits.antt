@@ -142,3 +142,6 @@ data_long bs kl kh al ah long last = record {
   here = λ l b. let f = begun_fits bs 62 (omega arith) (omega arith) b in let e = f.2.data_short kh in omega arith;
   missing = λ e f. omega arith;
 }
+
+-- why each frame that cannot be read is not one
+pub ruleset misfits = (aircraft_wrong, torn_head, report_long, eighth_not_last, torn_data, data_long)

@@ -73,13 +73,13 @@ pub record CarriesReport (bs : List ℕ) (way : Way) (aircraft log_on oldest fla
 
 -- a frame says what its octets say
 abbrev pub Shows : List ℕ → Frame → Type 0
-Shows bs (Data aircraft log_on number header payload) = CarriesData bs (way_of number) aircraft log_on (octet_of number) header payload.now
-Shows bs (Report aircraft log_on oldest flags) = CarriesReport bs (way_of oldest) aircraft log_on (octet_of oldest) flags.octet
+Shows bs (Data on number bdu) = CarriesData bs (way_of number) on.aircraft on.number (octet_of number) bdu.header bdu.payload.now
+Shows bs (Report on oldest flags) = CarriesReport bs (way_of oldest) on.aircraft on.number (octet_of oldest) flags.octet
 
 -- the way that a frame's numbers go
 abbrev pub way_of_frame : Frame → Way
-way_of_frame (Data aircraft log_on number header payload) = way_of number
-way_of_frame (Report aircraft log_on oldest flags) = way_of oldest
+way_of_frame (Data on number bdu) = way_of number
+way_of_frame (Report on oldest flags) = way_of oldest
 
 -- whatever these octets are read as goes this way
 abbrev pub OnlyGoes : Way → List ℕ → Type 0
@@ -99,6 +99,6 @@ Read bs (Err fault) = NotRead bs fault
 
 -- a frame that is read has the octets that are written from its fields
 abbrev pub Rewritten : List ℕ → Result Frame FrameFault → Type 0
-Rewritten bs (Ok (Data aircraft log_on number header payload)) = bs ≡ data_octets (way_of number) aircraft log_on (octet_of number) header payload.now
-Rewritten bs (Ok (Report aircraft log_on oldest flags)) = bs ≡ report_octets (way_of oldest) aircraft log_on (octet_of oldest) flags.octet
+Rewritten bs (Ok (Data on number bdu)) = bs ≡ data_octets (way_of number) on.aircraft on.number (octet_of number) bdu.header bdu.payload.now
+Rewritten bs (Ok (Report on oldest flags)) = bs ≡ report_octets (way_of oldest) on.aircraft on.number (octet_of oldest) flags.octet
 Rewritten bs (Err fault) = Unit {0}

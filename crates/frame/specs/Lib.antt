@@ -1,6 +1,8 @@
 pub mod Numbers
 pub mod Directions
+pub mod Kinds
 pub mod Headers
+pub mod Reasons
 pub mod Refusals
 pub mod Beginnings
 pub mod Writing

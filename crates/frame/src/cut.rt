@@ -5,12 +5,7 @@ ghost use Rattle.frame.specs.Packets.{bdus_in, CutMade, HeaderCut, PartCut, Part
 use crate::cutting::Cutting;
 use crate::fault::FrameFault;
 use crate::header::BduHeader;
-
-/// The octets of a BDU that is not a packet's last.
-const PART: usize = 53;
-
-/// The most octets of a packet.
-const LONGEST: usize = 424;
+use crate::sizes::{BDU_ROOM, PACKET_ROOM};
 
 impl Cutting {
     /// The cutting of a packet under a priority and a reference number; refused where the packet has no or
@@ -18,7 +13,7 @@ impl Cutting {
     pub fn new(q: u8, rn: u8, len: usize) -> Result<Cutting, FrameFault>
         ensures { CutMade q rn len result }
     {
-        if q > 3 || rn > 3 || len < 1 || len > LONGEST {
+        if q > 3 || rn > 3 || len < 1 || len > PACKET_ROOM {
             return Err(FrameFault::Packet);
         }
         Ok(Cutting { q, rn, len })
@@ -28,14 +23,14 @@ impl Cutting {
     pub fn bdus(self) -> usize
         ensures { result ≡ bdus_in self.len }
     {
-        self.len.div_ceil(PART)
+        self.len.div_ceil(BDU_ROOM)
     }
 
     /// The header of the packet's BDU `bsn`; none behind the last.
     pub fn header(self, bsn: u8) -> Option<BduHeader>
         ensures { HeaderCut self bsn result }
     {
-        let next = bsn as usize + 1;
+        let next = usize::from(bsn) + 1;
         if next > self.bdus() {
             return None;
         }
@@ -49,15 +44,10 @@ impl Cutting {
 }
 
 /// The octets of a packet's BDU `bsn`, as a part of the packet; none behind the last. Joined, these parts are the packet.
+#[tactic(auto, using(crate::proofs::Parts::parts_join))]
 pub fn part(packet: &[u8], bsn: u8) -> Option<&[u8]>
     ensures part { PartCut packet.now bsn result }
     ensures join { PartsJoin }
 {
-    let from = PART * bsn as usize;
-    let len = packet.len();
-    if from >= len {
-        return None;
-    }
-    let to = len.min(from + PART);
-    Some(&packet[from..to])
+    packet.chunks(BDU_ROOM).nth(usize::from(bsn))
 }

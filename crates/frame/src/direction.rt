@@ -1,6 +1,8 @@
 //! The two directions as types, so that a half is one text for both.
-ghost use Rattle.std.specs.Prelude.{◌≡◌, MatchOption, ◌≢◌};
+ghost use Rattle.std.specs.Prelude.{◌≡◌, MatchOption, ◌≢◌, refl};
 ghost use Rattle.frame.specs.Directions.{data_kind, report_kind, way_of, octet_of};
+ghost use Rattle.frame.specs.declared.kind.Kind.{Kind};
+ghost use Rattle.frame.specs.declared.kind.Kind.TheVariants as Kind;
 ghost use Rattle.frame.specs.declared.kind.Way.{Way};
 ghost use Rattle.frame.specs.declared.kind.Way.TheVariants.{Up, Down};
 
@@ -11,23 +13,25 @@ use crate::number::{DownlinkNumber, FrameNumber, Number, UplinkNumber};
 pub trait Direction {
     type Number: Number;
 
+    /// The kind of this direction's data frames.
     const DATA: Kind;
 
+    /// The kind of the reports on this direction's numbers.
     const REPORT: Kind;
 
+    ghost DATA: { Kind };
+
+    ghost REPORT: { Kind };
+
     ghost way: { Way };
-
-    /// The kind of this direction's data frames, which is `DATA`.
-    fn data_kind() -> Kind
-        ensures { result ≡ data_kind way };
-
-    /// The kind of the reports on this direction's numbers, which is `REPORT`.
-    fn report_kind() -> Kind
-        ensures { result ≡ report_kind way };
 
     /// The number, if it is one of this direction.
     fn own(number: FrameNumber) -> Option<Self::Number>
         ensures { MatchOption result (way_of number ≢ way) (λ n. (way_of number ≡ way) × (Self.Number.Number.value n ≡ octet_of number)) };
+
+    ghost data_is: { DATA ≡ data_kind way };
+
+    ghost report_is: { REPORT ≡ report_kind way };
 }
 
 /// From the ground to the aircraft.
@@ -45,15 +49,15 @@ impl Direction for Uplink {
 
     const REPORT: Kind = Kind::UplinkReport;
 
+    ghost DATA = { Kind.UplinkData };
+
+    ghost REPORT = { Kind.UplinkReport };
+
     ghost way = { Up };
 
-    fn data_kind() -> Kind {
-        Self::DATA
-    }
+    ghost data_is = { refl };
 
-    fn report_kind() -> Kind {
-        Self::REPORT
-    }
+    ghost report_is = { refl };
 
     fn own(number: FrameNumber) -> Option<UplinkNumber> {
         match number {
@@ -70,15 +74,15 @@ impl Direction for Downlink {
 
     const REPORT: Kind = Kind::DownlinkReport;
 
+    ghost DATA = { Kind.DownlinkData };
+
+    ghost REPORT = { Kind.DownlinkReport };
+
     ghost way = { Down };
 
-    fn data_kind() -> Kind {
-        Self::DATA
-    }
+    ghost data_is = { refl };
 
-    fn report_kind() -> Kind {
-        Self::REPORT
-    }
+    ghost report_is = { refl };
 
     fn own(number: FrameNumber) -> Option<DownlinkNumber> {
         match number {

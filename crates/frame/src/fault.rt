@@ -1,5 +1,6 @@
 //! Refusals: what a call answers when it says no.
 ghost use Rattle.std.specs.Prelude.{◌≡◌};
+ghost use Rattle.frame.specs.Reasons.{number_of};
 ghost use Rattle.frame.specs.Refusals.{refused};
 
 /// The layer that refused.
@@ -12,10 +13,50 @@ pub enum Layer {
     Linkrun,
 }
 
-/// A refusal as every caller sees it: its number, the layer that made it and, where the number has one, a place.
+/// Why a call says no. Programs and logs print a reason as its number.
+#[derive(Clone, Copy)]
+pub enum Reason {
+    /// A slot below the clock or above the last one.
+    Slot = 1,
+    /// A packet of no or over 424 octets, or a priority or reference number above 3.
+    Packet = 2,
+    /// A buffer that is too short for a frame or a packet, or a frame that is too long for a channel.
+    Buffer = 3,
+    /// A frame that cannot be read; the refusal has the place of the first octet that is wrong, missing or too many.
+    Unreadable = 4,
+    /// A log-on number that is not greater, or a call that needs a log-on, where there was none.
+    LogOn = 5,
+    /// A frame for another direction, aircraft or log-on.
+    Elsewhere = 6,
+    /// A data number that is not awaited, or a report that acknowledges what it cannot.
+    Number = 7,
+    /// A BDU that contradicts its place.
+    Contradiction = 8,
+    /// No reference number of the priority is free.
+    NoReference = 9,
+    /// Aircraft 0 or 255, another than a logged-on end's, or one that is not in the station's table.
+    Aircraft = 10,
+    /// No record of the station is free.
+    NoRecord = 11,
+    /// Too few places for notices.
+    NoNotices = 12,
+    /// A line that is no form; the refusal has the column of the first character that fits none.
+    Form = 13,
+}
+
+impl From<Reason> for u8 {
+    ghost from_gives = { λ reason r. r ≡ number_of reason };
+
+    /// The number of a reason.
+    fn from(reason: Reason) -> u8 {
+        reason as u8
+    }
+}
+
+/// A refusal as every caller sees it: its reason, the layer that made it and, where the reason has one, a place.
 #[derive(Clone, Copy)]
 pub struct Refusal {
-    pub number: u8,
+    pub reason: Reason,
     pub layer: Layer,
     pub place: Option<usize>,
 }
@@ -33,19 +74,19 @@ pub enum FrameFault {
     Aircraft,
 }
 
-impl FrameFault {
-    /// The number, layer and place of this refusal.
-    pub fn refusal(self) -> Refusal
-        ensures { result ≡ refused self }
-    {
-        let (number, place) = match self {
-            FrameFault::Packet => (2, None),
-            FrameFault::Buffer => (3, None),
-            FrameFault::Unreadable { place } => (4, Some(place)),
-            FrameFault::Aircraft => (10, None),
+impl From<FrameFault> for Refusal {
+    ghost from_gives = { λ fault r. r ≡ refused fault };
+
+    /// The reason, layer and place of what the frame layer refuses.
+    fn from(fault: FrameFault) -> Refusal {
+        let (reason, place) = match fault {
+            FrameFault::Packet => (Reason::Packet, None),
+            FrameFault::Buffer => (Reason::Buffer, None),
+            FrameFault::Unreadable { place } => (Reason::Unreadable, Some(place)),
+            FrameFault::Aircraft => (Reason::Aircraft, None),
         };
         Refusal {
-            number,
+            reason,
             layer: Layer::Frame,
             place,
         }

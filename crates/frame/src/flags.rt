@@ -15,19 +15,19 @@ fn worth(mark: bool, value: u8) -> u8
     if mark { value } else { 0 }
 }
 
-impl Flags {
+impl From<[bool; 8]> for Flags {
+    ghost from_gives = { λ marks r. (r.octet ≡ flags_octet marks) × (marks_of r.octet ≡ marks) };
+
     /// The flags of which those at `true` are set.
-    pub fn from_marks(marks: [bool; 8]) -> Flags
-        ensures value { result.octet ≡ flags_octet marks }
-        ensures back { marks_of result.octet ≡ marks }
-    {
+    fn from(marks: [bool; 8]) -> Flags {
         let [a, b, c, d, e, f, g, h] = marks;
         let low = worth(a, 1) + worth(b, 2) + worth(c, 4) + worth(d, 8);
         let high = worth(e, 16) + worth(f, 32) + worth(g, 64) + worth(h, 128);
-        let octet = low + high;
-        Flags { octet }
+        Flags { octet: low + high }
     }
+}
 
+impl Flags {
     /// Which flags are set.
     pub fn marks(self) -> [bool; 8]
         ensures { result ≡ marks_of self.octet }

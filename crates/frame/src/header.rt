@@ -12,11 +12,11 @@ pub struct BduHeader {
     pub bsn: u8,
 }
 
-impl BduHeader {
+impl From<u8> for BduHeader {
+    ghost from_gives = { λ octet r. r ≡ header_of octet };
+
     /// The header that an octet stands for.
-    pub fn from_octet(octet: u8) -> BduHeader
-        ensures { result ≡ header_of octet }
-    {
+    fn from(octet: u8) -> BduHeader {
         BduHeader {
             rn: octet / 64,
             q: octet / 16 % 4,
@@ -24,7 +24,9 @@ impl BduHeader {
             bsn: octet % 8,
         }
     }
+}
 
+impl BduHeader {
     /// The octet that stands for the header; none where a field is too large for it.
     pub fn octet(self) -> Option<u8>
         ensures { HeaderWritten self result }

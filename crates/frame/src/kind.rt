@@ -1,6 +1,9 @@
 //! The kinds of frames, and the way that a number goes.
-ghost use Rattle.std.specs.Prelude.{◌≡◌, ◌≤◌, MatchOption};
+ghost use Rattle.std.specs.Prelude.{◌≡◌};
 ghost use Rattle.frame.specs.Directions.{kind_octet};
+ghost use Rattle.frame.specs.Kinds.{KindRead};
+
+use crate::fault::FrameFault;
 
 /// The way of a data frame: up to the aircraft, or down to the ground.
 #[derive(Clone, Copy)]
@@ -18,24 +21,28 @@ pub enum Kind {
     DownlinkReport = 4,
 }
 
-impl Kind {
-    /// The kind that an octet stands for, if it stands for one.
-    pub fn from_octet(octet: u8) -> Option<Kind>
-        ensures { MatchOption result (1 ≤ octet → octet ≤ 4 → ⊥) (λ kind. kind_octet kind ≡ octet) }
-    {
+impl TryFrom<u8> for Kind {
+    type Error = FrameFault;
+
+    ghost try_from_gives = { KindRead };
+
+    /// The kind that octet 0 of a frame stands for, if it stands for one.
+    fn try_from(octet: u8) -> Result<Kind, FrameFault> {
         match octet {
-            1 => Some(Kind::UplinkData),
-            2 => Some(Kind::DownlinkData),
-            3 => Some(Kind::UplinkReport),
-            4 => Some(Kind::DownlinkReport),
-            _ => None,
+            1 => Ok(Kind::UplinkData),
+            2 => Ok(Kind::DownlinkData),
+            3 => Ok(Kind::UplinkReport),
+            4 => Ok(Kind::DownlinkReport),
+            _ => Err(FrameFault::Unreadable { place: 0 }),
         }
     }
+}
+
+impl From<Kind> for u8 {
+    ghost from_gives = { λ kind r. r ≡ kind_octet kind };
 
     /// The octet that stands for the kind in a frame.
-    pub fn octet(self) -> u8
-        ensures { result ≡ kind_octet self }
-    {
-        self as u8
+    fn from(kind: Kind) -> u8 {
+        kind as u8
     }
 }

@@ -1,13 +1,15 @@
 //! Reading a frame.
 ghost use Rattle.std.specs.Prelude.{◌≡◌, MatchOption, slice_index};
 ghost use Rattle.frame.specs.Beginnings.{FirstWrong, OnePlace};
-ghost use Rattle.frame.specs.Directions.{way_of, octet_of, way_of_kind};
-ghost use Rattle.frame.specs.Frames.{Read, Readable, Rewritten};
+ghost use Rattle.frame.specs.Directions.{kind_octet, way_of, octet_of, way_of_kind};
+ghost use Rattle.frame.specs.Frames.{kind_at, Read, Readable, Rewritten};
 
+use crate::bdu::Bdu;
 use crate::fault::FrameFault;
 use crate::flags::Flags;
 use crate::header::BduHeader;
 use crate::kind::Kind;
+use crate::logon::LogOn;
 use crate::number::{DownlinkNumber, FrameNumber, Number, UplinkNumber};
 
 /// What a frame says. The number tells the direction.
@@ -15,53 +17,41 @@ use crate::number::{DownlinkNumber, FrameNumber, Number, UplinkNumber};
 pub enum Frame<'a> {
     /// A data frame with its BDU, whose octets are a part of the frame's.
     Data {
-        aircraft: u8,
-        log_on: u32,
+        log_on: LogOn,
         number: FrameNumber,
-        header: BduHeader,
-        payload: &'a [u8],
+        bdu: Bdu<'a>,
     },
     /// A report: the oldest number not received, and the flags of the eight behind it.
     Report {
-        aircraft: u8,
-        log_on: u32,
+        log_on: LogOn,
         oldest: FrameNumber,
         flags: Flags,
     },
 }
 
-/// The octet at a place, 0 behind the end.
-fn octet_at(frame: &[u8], place: usize) -> u8
-    ensures { result ≡ slice_index frame.now place }
-{
-    if place < frame.len() { frame[place] } else { 0 }
-}
-
-/// The place of the first octet that is wrong, missing or too many; none where the frame can be read.
-fn first_wrong(frame: &[u8]) -> Option<usize>
+/// The place of the first octet of a frame of a kind that is wrong, missing or too many; none where the frame can be read.
+#[tactic(auto, using(crate::proofs::Misfits::misfits))]
+fn first_wrong(frame: &[u8], kind: Kind) -> Option<usize>
+    requires { kind_octet kind ≡ kind_at frame.now }
     ensures { MatchOption result (Readable frame.now) (λ place. FirstWrong Readable frame.now place) }
 {
     let len = frame.len();
-    let kind = octet_at(frame, 0);
-    if kind < 1 || kind > 4 {
-        return Some(0);
-    }
-    let aircraft = octet_at(frame, 1);
+    let octet_at = |place: usize| frame.get(place).copied().unwrap_or(0);
+    let aircraft = octet_at(1);
     if aircraft < 1 || aircraft > 254 {
         return Some(1);
     }
     if len < 8 {
         return Some(len);
     }
-    if kind > 2 {
+    if matches!(kind, Kind::UplinkReport | Kind::DownlinkReport) {
         return if len > 8 { Some(8) } else { None };
     }
-    let header = octet_at(frame, 7);
-    let more = header / 8 % 2 == 1;
-    if more && header % 8 == 7 {
+    let header = BduHeader::from(octet_at(7));
+    if header.more && header.bsn == 7 {
         return Some(7);
     }
-    if len < 9 || (more && len < 61) {
+    if len < 9 || (header.more && len < 61) {
         return Some(len);
     }
     if len > 61 { Some(61) } else { None }
@@ -84,31 +74,32 @@ fn number_of(kind: Kind, octet: u8) -> FrameNumber
 /// Reads a frame. Every list of octets has one answer: what the frame says, or the place of the first octet
 /// that is wrong, missing or too many. A frame that is read has the octets that the writers write from what it
 /// says, so two frames that say the same are the same; and no other place, or answer, fits the octets.
+#[tactic(auto, using(crate::proofs::Reading::reading))]
 pub fn read(frame: &[u8]) -> Result<Frame<'_>, FrameFault>
     ensures read { Read frame.now result }
     ensures rewritten { Rewritten frame.now result }
     ensures one { OnePlace Readable frame.now }
 {
-    if let Some(place) = first_wrong(frame) {
+    let kind = Kind::try_from(frame.first().copied().unwrap_or(0))?;
+    if let Some(place) = first_wrong(frame, kind) {
         return Err(FrameFault::Unreadable { place });
     }
-    let Some(kind) = Kind::from_octet(frame[0]) else {
-        unreachable()
+    let log_on = LogOn {
+        aircraft: frame[1],
+        number: u32::from_be_bytes([frame[2], frame[3], frame[4], frame[5]]),
     };
-    let aircraft = frame[1];
-    let log_on = u32::from_be_bytes([frame[2], frame[3], frame[4], frame[5]]);
     let number = number_of(kind, frame[6]);
     let len = frame.len();
     match kind {
         Kind::UplinkData | Kind::DownlinkData => Ok(Frame::Data {
-            aircraft,
             log_on,
             number,
-            header: BduHeader::from_octet(frame[7]),
-            payload: &frame[8..len],
+            bdu: Bdu {
+                header: BduHeader::from(frame[7]),
+                payload: &frame[8..len],
+            },
         }),
         Kind::UplinkReport | Kind::DownlinkReport => Ok(Frame::Report {
-            aircraft,
             log_on,
             oldest: number,
             flags: Flags { octet: frame[7] },

@@ -10,19 +10,18 @@ use crate::flags::Flags;
 use crate::kind::Kind;
 use crate::logon::LogOn;
 use crate::number::Number;
-
-/// The octets that a buffer for frames must have: those of the longest frame.
-const ROOM: usize = 61;
+use crate::sizes::FRAME_ROOM;
 
 /// The first eight octets of a frame: its kind, aircraft and log-on number, a number, and the octet behind it.
 fn head(kind: Kind, log_on: LogOn, number: u8, last: u8) -> [u8; 8]
     ensures { result ≡ head_octets kind log_on.aircraft log_on.number number last }
 {
     let [a, b, c, d] = log_on.number.to_be_bytes();
-    [kind.octet(), log_on.aircraft, a, b, c, d, number, last]
+    [u8::from(kind), log_on.aircraft, a, b, c, d, number, last]
 }
 
 /// Writes `front` and then `rest` at the front of the buffer.
+#[tactic(auto, using(std::proofs::lemmas::Slice::overwrites))]
 fn put(buffer: &mut [u8], front: &[u8], rest: &[u8])
     requires { length front.now + length rest.now ≤ length buffer.old }
     ensures { buffer.new ≡ front.now ++ rest.now
@@ -36,6 +35,7 @@ fn put(buffer: &mut [u8], front: &[u8], rest: &[u8])
 
 /// Writes a data frame of a direction into a buffer of 61 octets or more, and answers its length. A shorter buffer is
 /// refused and stays as it is.
+#[tactic(auto, using(crate::proofs::Octets::data_back, crate::proofs::Octets::data_goes))]
 pub fn write_data<D: Direction>(
     buffer: &mut [u8],
     log_on: LogOn,
@@ -45,13 +45,13 @@ pub fn write_data<D: Direction>(
     ensures { DataWritten D.Direction.way log_on.aircraft log_on.number (D.Number.Number.value number)
         bdu.entry.header bdu.entry.payload.now buffer.old result buffer.new }
 {
-    if buffer.len() < ROOM {
+    if buffer.len() < FRAME_ROOM {
         return Err(FrameFault::Buffer);
     }
     let Some(header) = bdu.header.octet() else {
         unreachable()
     };
-    let front = head(D::data_kind(), log_on, number.octet(), header);
+    let front = head(D::DATA, log_on, number.octet(), header);
     put(buffer, &front, bdu.payload);
     Ok(8 + bdu.payload.len())
 }
@@ -67,10 +67,10 @@ pub fn write_report<D: Direction>(
     ensures { ReportWritten D.Direction.way log_on.aircraft log_on.number (D.Number.Number.value oldest)
         flags.octet buffer.old result buffer.new }
 {
-    if buffer.len() < ROOM {
+    if buffer.len() < FRAME_ROOM {
         return Err(FrameFault::Buffer);
     }
-    let front = head(D::report_kind(), log_on, oldest.octet(), flags.octet);
+    let front = head(D::REPORT, log_on, oldest.octet(), flags.octet);
     put(buffer, &front, &[]);
     Ok(8)
 }

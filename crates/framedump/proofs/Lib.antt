@@ -1,2 +1,2 @@
 pub mod Marks
-pub mod Texts
+pub mod Reports

@@ -4,11 +4,16 @@ use Rattle.frame.specs.Beginnings.{FirstWrong}
 use Rattle.frame.specs.Directions.{way_of, octet_of}
 use Rattle.frame.specs.Flags.{marks_of}
 use Rattle.frame.specs.Frames.{Read}
+use Rattle.frame.specs.Reasons.{number_of}
 use Rattle.frame.specs.Refusals.{refused}
+use Rattle.frame.specs.declared.bdu.Bdu.{Bdu}
 use Rattle.frame.specs.declared.fault.FrameFault.{FrameFault}
+use Rattle.frame.specs.declared.fault.Refusal.{Refusal}
+use Rattle.frame.specs.declared.flags.Flags.{Flags}
 use Rattle.frame.specs.declared.header.BduHeader.{BduHeader}
 use Rattle.frame.specs.declared.kind.Way.{Way}
 use Rattle.frame.specs.declared.kind.Way.TheVariants.{Up, Down}
+use Rattle.frame.specs.declared.logon.LogOn.{LogOn}
 use Rattle.frame.specs.declared.number.FrameNumber.{FrameNumber}
 use Rattle.frame.specs.declared.reader.Frame.{Frame}
 use Rattle.frame.specs.declared.reader.Frame.TheVariants.{Data, Report}
@@ -44,41 +49,38 @@ header_text header =
     text (codes ", Q " ∷ decimal header.q ∷ codes ", RN " ∷ decimal header.rn ∷ codes ", M " ∷ decimal (cond header.more 1 0)
     ∷ codes ", BSN " ∷ decimal header.bsn ∷ [])
 
--- what a data frame says before its header
-abbrev pub data_head : FrameNumber → ℕ → ℕ → List ℕ
-data_head number aircraft log_on =
-    text (way_word (way_of number) ∷ codes " data: aircraft " ∷ decimal aircraft ∷ codes ", log-on " ∷ decimal log_on ∷ codes ", number "
-    ∷ decimal (octet_of number) ∷ [])
-
 -- a data frame in words
-abbrev pub data_text : FrameNumber → ℕ → ℕ → BduHeader → List ℕ → List ℕ
-data_text number aircraft log_on header payload =
-    text (data_head number aircraft log_on ∷ header_text header ∷ codes ", payload " ∷ octets_text payload ∷ [])
+abbrev pub data_text : LogOn → FrameNumber → Bdu → List ℕ
+data_text log_on number bdu =
+    text (way_word (way_of number) ∷ codes " data: aircraft " ∷ decimal log_on.aircraft ∷ codes ", log-on " ∷ decimal log_on.number
+    ∷ codes ", number " ∷ decimal (octet_of number) ∷ header_text bdu.header ∷ codes ", payload " ∷ octets_text bdu.payload.now ∷ [])
 
--- what a report says before its flags
-abbrev pub report_head : FrameNumber → ℕ → ℕ → List ℕ
-report_head oldest aircraft log_on =
-    text (codes "report of " ∷ way_word (way_of oldest) ∷ codes " numbers: aircraft " ∷ decimal aircraft ∷ codes ", log-on " ∷ decimal log_on
-    ∷ codes ", R " ∷ decimal (octet_of oldest) ∷ codes ", flagged" ∷ [])
+-- the numbers that a report flags behind its oldest one, or that there is none
+abbrev pub flagged_text : ℕ → Flags → List ℕ
+flagged_text oldest flags = or_none (flagged ((oldest + 1) % 256) (marks_of flags.octet))
 
 -- a report in words
-abbrev pub report_text : FrameNumber → ℕ → ℕ → ℕ → List ℕ
-report_text oldest aircraft log_on flags =
-    text (report_head oldest aircraft log_on ∷ or_none (flagged ((octet_of oldest + 1) % 256) (marks_of flags)) ∷ [])
+abbrev pub report_text : LogOn → FrameNumber → Flags → List ℕ
+report_text log_on oldest flags =
+    text (codes "report of " ∷ way_word (way_of oldest) ∷ codes " numbers: aircraft " ∷ decimal log_on.aircraft ∷ codes ", log-on "
+    ∷ decimal log_on.number ∷ codes ", R " ∷ decimal (octet_of oldest) ∷ codes ", flagged" ∷ flagged_text (octet_of oldest) flags ∷ [])
 
 abbrev pub frame_text : Frame → List ℕ
-frame_text (Data aircraft log_on number header payload) = data_text number aircraft log_on header payload.now
-frame_text (Report aircraft log_on oldest flags) = report_text oldest aircraft log_on flags.octet
+frame_text (Data log_on number bdu) = data_text log_on number bdu
+frame_text (Report log_on oldest flags) = report_text log_on oldest flags
 
 -- a refusal of the frame layer, with its place if it has one
-abbrev pub refusal_text : ℕ → Option ℕ → List ℕ
-refusal_text number (Some place) = text (codes "refused " ∷ decimal number ∷ codes " by frame at octet " ∷ decimal place ∷ [])
-refusal_text number None = text (codes "refused " ∷ decimal number ∷ codes " by frame" ∷ [])
+abbrev pub placed_text : ℕ → Option ℕ → List ℕ
+placed_text number (Some place) = text (codes "refused " ∷ decimal number ∷ codes " by frame at octet " ∷ decimal place ∷ [])
+placed_text number None = text (codes "refused " ∷ decimal number ∷ codes " by frame" ∷ [])
+
+abbrev pub refusal_text : Refusal → List ℕ
+refusal_text refusal = placed_text (number_of refusal.reason) refusal.place
 
 -- what is printed of a frame's octets: the frame, or the refusal
 abbrev pub answer_text : Result Frame FrameFault → List ℕ
 answer_text (Ok frame) = frame_text frame
-answer_text (Err fault) = refusal_text (refused fault).number (refused fault).place
+answer_text (Err fault) = refusal_text (refused fault)
 
 -- a line that lists octets is printed as their frame, or as the refusal of it
 pub record FrameLine (line out : List ℕ) : Type 0 where

@@ -2,21 +2,17 @@
 #![tactic(auto)]
 
 use dump::dump_line;
-use forms::without_newline;
 use std::io;
 use std::io::{BufRead, BufReader};
 
 mod dump;
+mod flagged;
+mod text;
 
 fn main(rt: HostRuntime) -> io::Result<()> {
-    let mut input = BufReader::new(rt.alloc(), rt.stdin())?;
-    let mut line = Vec::new(rt.alloc());
-    for _ in 0..u64::MAX {
-        line.clear();
-        if input.read_until(b'\n', &mut line)? == 0 {
-            break;
-        }
-        let text = dump_line(rt.alloc(), without_newline(&line))?;
+    let input = BufReader::new(rt.alloc(), rt.stdin())?;
+    for line in input.split(rt.alloc(), b'\n') {
+        let text = dump_line(rt.alloc(), &line?)?;
         println!(rt; "{text}")?;
     }
     Ok(())

@@ -11,8 +11,8 @@ use Rattle.rules.specs.Sending.{Sending, Answer, Sends, turn, passed, accepted, 
 use Rattle.rules.specs.declared.fault.EndFault.{EndFault}
 use Rattle.rules.proofs.SendAnswers.{one_answer}
 use Rattle.sender.specs.Senders.{answer_of, payload_of, sent_by, Chooses, Fitting, accept_rows, Accepts, report_rows, flagged, Foretells, Hears}
-use Rattle.sender.specs.declared.choice.Choice.{Choice}
-use Rattle.sender.specs.declared.choice.Choice.TheVariants.{Idle, Full, Shut, Next}
+use Rattle.sender.specs.declared.choice.Pause.{Pause}
+use Rattle.sender.specs.declared.choice.Pause.TheVariants.{Idle, Full, Shut}
 use Rattle.sender.specs.declared.choice.ToSend.{ToSend}
 use Rattle.sender.specs.Sets.{Contains}
 use Rattle.sender.specs.declared.set.PacketSet.{PacketSet}
@@ -26,11 +26,11 @@ never e = absurd (omega arith)
 -- ## send
 
 -- none goes
-pub none_goes : {N : Type 0} (g : Ghosts N) (count slot : ℕ) (S : Sending) (choice : Choice N) → ((x : ToSend N) → choice ≡ Next x → ⊥) → Chooses g count S choice → Goes count slot S None S
-none_goes g count slot S Idle n ch = (Answer.NoneIdle, ch slot, refl)
-none_goes g count slot S Full n ch = (Answer.NoneFull, ch slot, refl)
-none_goes g count slot S Shut n ch = (Answer.NoneShut, ch slot, refl)
-none_goes g count slot S (Next x) n ch = absurd (n x refl)
+pub none_goes : {N : Type 0} (g : Ghosts N) (count slot : ℕ) (S : Sending) (choice : Result (ToSend N) Pause) → ((x : ToSend N) → choice ≡ Ok x → ⊥) → Chooses g count S choice → Goes count slot S None S
+none_goes g count slot S (Err Idle) n ch = (Answer.NoneIdle, ch slot, refl)
+none_goes g count slot S (Err Full) n ch = (Answer.NoneFull, ch slot, refl)
+none_goes g count slot S (Err Shut) n ch = (Answer.NoneShut, ch slot, refl)
+none_goes g count slot S (Ok x) n ch = absurd (n x refl)
 
 -- the octet of a header that fits
 pub octet_is : (h : BduHeader) (payload : List ℕ) (r : Option ℕ) → HeaderWritten h r → Fitting h payload → r ≡ Some (header_octet h)
@@ -38,12 +38,12 @@ octet_is h payload None w f = absurd (w (record { rn_small = f.reference; q_smal
 octet_is h payload (Some octet) w f = ap Some w.1
 
 -- one goes
-pub one_goes : {N : Type 0} (g : Ghosts N) (count slot : ℕ) (S S' : Sending) (x : ToSend N) (number : ℕ) (header : Option ℕ) (payload : List ℕ) → Chooses g count S (Next x) → S' ≡ sent_by x slot S
+pub one_goes : {N : Type 0} (g : Ghosts N) (count slot : ℕ) (S S' : Sending) (x : ToSend N) (number : ℕ) (header : Option ℕ) (payload : List ℕ) → Chooses g count S (Ok x) → S' ≡ sent_by x slot S
     → number ≡ g.value x.number → header ≡ Some (header_octet x.header) → payload ≡ payload_of S x.header → Goes count slot S (Some (record { number = number; header = header; len = length payload })) S'
 one_goes g count slot S S' x number header payload ch after n h p =
     let frame : ℕ → Option ℕ → List ℕ → Option Sent = λ a b c. Some (record { number = a; header = b; len = length c }) in
-    let same : frame number header payload ≡ frame_of (answer_of g S (Next x)) = ap (λ a. frame a header payload) n ∙ ap (λ b. frame (g.value x.number) b payload) h ∙ ap (frame (g.value x.number) (Some (header_octet x.header))) p in
-    (answer_of g S (Next x), subst (Sends slot count S (answer_of g S (Next x))) (sym after) (ch slot), same)
+    let same : frame number header payload ≡ frame_of (answer_of g S (Ok x)) = ap (λ a. frame a header payload) n ∙ ap (λ b. frame (g.value x.number) b payload) h ∙ ap (frame (g.value x.number) (Some (header_octet x.header))) p in
+    (answer_of g S (Ok x), subst (Sends slot count S (answer_of g S (Ok x))) (sym after) (ch slot), same)
 
 -- a send at a half that is known
 pub went : (count slot : ℕ) (S S0 S' S1 : Sending) (r : Option Sent) (a : Answer) → S ≡ S0 → Goes count slot S r S' → Sends slot count S0 a S1 → (r ≡ frame_of a) × (S' ≡ S1)

@@ -1,13 +1,12 @@
 -- A receiving half that takes packets of one BDU one after the other.
-use Rattle.std.proofs.Common.{◌≡◌, ℕ, ◌+◌, ◌%◌, ◌<◌, true, false, cond, not, ◌&&◌, ltb, List, [], ◌∷◌, length, get_or, set, replicate, None, Ok, Err, Result, sym, ap, ◌∙◌, subst, arith}
+use Rattle.std.proofs.Common.{◌≡◌, ℕ, ◌+◌, ◌%◌, ◌<◌, true, false, cond, not, ◌&&◌, ltb, List, [], ◌∷◌, length, get_or, set, replicate, Some, None, Option, Ok, Err, Result, sym, ap, ◌∙◌, subst, arith}
 use Rattle.frame.specs.Numbers.{distance}
 use Rattle.rules.specs.Ends.{Rows, refused_by}
 use Rattle.rules.specs.Receiving.{Bdu, Receiving, Answer, empty, window, moved, contradicts, place, settled, added, packet, bring}
 use Rattle.rules.specs.declared.fault.EndFault.{EndFault}
 use Rattle.rules.specs.declared.fault.EndFault.TheVariants as fault
 use Rattle.receiver.specs.Receivers.{take_rows, Takes}
-use Rattle.receiver.specs.declared.receiver.Taken.{Taken}
-use Rattle.receiver.specs.declared.receiver.Taken.TheVariants.{Held, Packet}
+use Rattle.receiver.specs.declared.receiver.HandUp.{HandUp}
 
 -- the one BDU of a packet of the octet 65
 abbrev pub short : Bdu
@@ -44,12 +43,12 @@ pub in_room : (V : Receiving) (n room : ℕ) → room ≡ 424 → refused_by (ta
 in_room V n room e clear = ap (λ r. refused_by (take_rows V n short r)) e ∙ clear
 
 -- take at a half that is known
-pub takes : (n n0 now : ℕ) (u u0 : Bdu) (V V0 V' V1 : Receiving) (buffer after : List ℕ) (r : Result Taken EndFault) (q rn : ℕ) (octets : List ℕ) → V ≡ V0 → n ≡ n0 → u ≡ u0
+pub takes : (n n0 now : ℕ) (u u0 : Bdu) (V V0 V' V1 : Receiving) (buffer after : List ℕ) (r : Result (Option HandUp) EndFault) (q rn : ℕ) (octets : List ℕ) → V ≡ V0 → n ≡ n0 → u ≡ u0
     → Takes V n u now buffer r V' after → refused_by (take_rows V0 n0 u0 (length buffer)) ≡ None → bring V0 n0 u0 now ≡ (Answer.Packet q rn octets, V1) → V' ≡ V1
 takes n n0 now u u0 V V0 V' V1 buffer after r q rn octets v m e t clear known =
     go r (subst (λ x. Takes V0 n0 x now buffer r V' after) e (subst (λ x. Takes V0 x u now buffer r V' after) m (subst (λ x. Takes x n u now buffer r V' after) v t)))
   where
-    go : (r : Result Taken EndFault) → Takes V0 n0 u0 now buffer r V' after → V' ≡ V1
-    go (Ok Held) t = ap (λ x. x.1) (sym t.1.0 ∙ known)
-    go (Ok (Packet q rn len)) t = ap (λ x. x.1) (sym t.1.1 ∙ known)
+    go : (r : Result (Option HandUp) EndFault) → Takes V0 n0 u0 now buffer r V' after → V' ≡ V1
+    go (Ok None) t = ap (λ x. x.1) (sym t.1.0 ∙ known)
+    go (Ok (Some up)) t = ap (λ x. x.1) (sym t.1.1 ∙ known)
     go (Err f) t = absurd (let z : ◌≡◌ {A = ℕ} 0 1 = (let w = sym clear ∙ t.0 in cc) in omega arith)

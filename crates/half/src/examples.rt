@@ -2,12 +2,11 @@
 ghost use Rattle.std.specs.Prelude.{◌≡◌, false, [], ◌∷◌};
 ghost use Rattle.rules.specs.Receiving as rule;
 ghost use Rattle.half.specs.Examples.{Goes, only_eight, two_frames, sent_again, one_expiry, worked};
-ghost use Rattle.sender.specs.Senders.{sending};
 
 use frame::{Bdu, BduHeader, Direction, Flags, Number};
 use receiver::Receiver;
 use rules::Report;
-use sender::{Choice, Sender};
+use sender::Sender;
 
 /// A data frame that went: its number, the octet of its BDU header, and how many octets its BDU has.
 #[derive(Clone, Copy)]
@@ -44,9 +43,9 @@ pub struct Examples {
 
 /// Sends what is to be sent next.
 fn go<D: Direction>(sender: &mut Sender<D>, count: u8, slot: u32) -> Option<Sent>
-    ensures { Goes count slot (sending D.Number.Number sender.old) result (sending D.Number.Number sender.new) }
+    ensures { Goes count slot sender.old result sender.new }
 {
-    let Choice::Next(next) = sender.choose(count) else {
+    let Ok(next) = sender.choose(count) else {
         return None;
     };
     let sent = Sent {

@@ -2,7 +2,7 @@
 #![tactic(auto)]
 
 pub use examples::{Examples, Expiry, Sent, worked_examples};
-pub use receiver::{Receiver, Taken};
-pub use sender::{Choice, PacketSet, Sender, ToSend};
+pub use receiver::{HandUp, Receiver};
+pub use sender::{PacketSet, Pause, Sender, ToSend};
 
 mod examples;

@@ -17,6 +17,7 @@ use Rattle.rules.specs.Ends as rules
 use Rattle.rules.specs.Receiving.{Bdu, Receiving}
 use Rattle.rules.specs.Receiving as receiving
 use Rattle.rules.specs.ReceivingLaws as halves
+use Rattle.frame.specs.Reasons.{number_of}
 use Rattle.rules.specs.Refusals.{refusal_of}
 use Rattle.rules.specs.Sending as sending
 use Rattle.rules.specs.Reports.{is_refused}
@@ -523,7 +524,7 @@ module _ (delay : End → ℕ) where
       (λ near.
       ⊎_elim
       (λ astray.
-      let seven : (refusal_of why).number ≡ 7 = ap (λ (g : EndFault). (refusal_of g).number) (sym astray.1) in
+      let seven : number_of (refusal_of why).reason ≡ 7 = ap (λ (g : EndFault). number_of (refusal_of g).reason) (sym astray.1) in
       subst (λ (k : ℕ). Went s s' (Event.Brought x (links.seen x (Reading.Report w aircraft number R flags)) (Answer.Refused k))) (sym seven)
       (takes_report s s' sane x f gives w aircraft number R flags reads (not-false mine near.0) (s.ends x) (only.0 ∙ rule.1) only.1 refl refl refl refl
       (Answer.Refused 7) (inr (7, refl)) (refl, (test_decides R flag S).refused astray.0, refl)))

@@ -6,6 +6,7 @@ use Rattle.std.specs.List.{range_with_len}
 use Rattle.rules.specs.Constants.{delays}
 use Rattle.rules.specs.Ends.{Sent, Brought, Reading, LogsOn, Slots, Accepts, SendsFrame, ReportsFrame, Brings, new, opposite, same_way}
 use Rattle.rules.specs.Ends as rules
+use Rattle.frame.specs.Reasons.{number_of}
 use Rattle.rules.specs.Refusals.{refusal_of}
 use Rattle.rules.specs.Sending.{is_acknowledged, mark}
 use Rattle.rules.specs.declared.fault.EndFault.{EndFault}
@@ -73,7 +74,7 @@ abbrev pub answered : Result Brought EndFault → Answer
 answered (Ok Brought.Held) = Answer.Held
 answered (Ok (Brought.Packet q rn octets)) = Answer.Packet q rn octets
 answered (Ok (Brought.Confirmed packets)) = Answer.Confirmed packets
-answered (Err fault) = Answer.Refused (refusal_of fault).number
+answered (Err fault) = Answer.Refused (number_of (refusal_of fault).reason)
 
 -- ## the steps
 

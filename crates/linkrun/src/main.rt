@@ -1,20 +1,15 @@
 //! Reads forms from standard input, one a line, and prints an answer to each.
 #![tactic(auto)]
 
-use forms::{Session, without_newline};
+use forms::Session;
 use std::io;
 use std::io::{BufRead, BufReader};
 
 fn main(rt: HostRuntime) -> io::Result<()> {
-    let mut input = BufReader::new(rt.alloc(), rt.stdin())?;
+    let input = BufReader::new(rt.alloc(), rt.stdin())?;
     let mut session = Session::new();
-    let mut line = Vec::new(rt.alloc());
-    for _ in 0..u64::MAX {
-        line.clear();
-        if input.read_until(b'\n', &mut line)? == 0 {
-            break;
-        }
-        let reply = session.answer(without_newline(&line));
+    for line in input.split(rt.alloc(), b'\n') {
+        let reply = session.answer(&line?);
         println!(rt; "{reply}")?;
     }
     Ok(())

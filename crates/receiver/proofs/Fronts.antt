@@ -1,22 +1,19 @@
 -- The flags in front counted one by one, and a half's numbers after one is received.
-use Rattle.std.proofs.Common.{◌≡◌, ℕ, suc, ◌+◌, ◌-◌, ◌%◌, ◌<◌, ◌≤◌, Bool, true, false, List, ◌∷◌, map, length, get_or, drop, set, sym, refl, ap, ◌∙◌, arith, length-set}
-use Rattle.std.proofs.lemmas.List.{at_drop_more, at_drop_all}
+use Rattle.std.proofs.Common.{◌≡◌, ℕ, suc, ◌+◌, ◌-◌, ◌%◌, ◌<◌, Bool, true, false, List, [], ◌∷◌, map, length, get_or, take, set, sym, refl, ap, ◌∙◌, arith, length-set}
+use Rattle.std.proofs.lemmas.List.Folds.{length-prefix_len}
 use Rattle.std.proofs.lemmas.List.FromFn.{fill_by_all, get_or-map-range_with_len}
-use Rattle.std.specs.List.{range_with_len}
+use Rattle.std.specs.List.{range_with_len, prefix_len}
 use Rattle.frame.specs.Numbers.{distance}
 use Rattle.rules.specs.Receiving.{Receiving, Place, window, front, moved, received}
 
--- a flag that is set is one more in front
-pub front_more : (fs : List Bool) (n : ℕ) → n < length fs → get_or fs n false ≡ true → front (drop n fs) ≡ suc (front (drop (n + 1) fs))
-front_more fs n l e = at_drop_more front fs n false l ∙ ap (λ b. front (b ∷ drop (n + 1) fs)) e
+-- how many flags in front are set
+front_is : (fs : List Bool) → prefix_len (λ x. x) fs ≡ front fs
+front_is [] = refl
+front_is (true ∷ fs) = omega (arith, front_is fs)
+front_is (false ∷ fs) = refl
 
--- one that is not set ends the front
-pub front_stop : (fs : List Bool) (n : ℕ) → n < length fs → get_or fs n false ≡ false → front (drop n fs) ≡ 0
-front_stop fs n l e = at_drop_more front fs n false l ∙ ap (λ b. front (b ∷ drop (n + 1) fs)) e
-
--- behind all flags there is none in front
-pub front_end : (fs : List Bool) (n : ℕ) → length fs ≤ n → front (drop n fs) ≡ 0
-front_end fs n l = at_drop_all front fs n l
+pub front_taken : (fs : List Bool) → length (take (prefix_len (λ x. x) fs) fs) ≡ front fs
+front_taken fs = length-prefix_len (λ x. x) fs ∙ front_is fs
 
 -- a half by its parts
 abbrev pub half : ℕ → List Bool → List Place → Receiving

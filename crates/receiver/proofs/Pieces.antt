@@ -1,39 +1,43 @@
 -- What is held of a packet's BDUs, counted and joined one by one.
-use Rattle.std.proofs.Common.{◌≡◌, ℕ, suc, ◌+◌, ◌<◌, ◌≤◌, min, Bool, true, false, ◌||◌, List, [], ◌∷◌, ◌++◌, map, length, get_or, take, drop, is_some, Some, None, Option, sym, refl, ap, ◌∙◌, arith, length-take}
-use Rattle.std.proofs.lemmas.List.{at_drop_more, at_drop_all, take_more, append_assoc, get_or-take, length-map}
-use Rattle.receiver.specs.declared.place.Piece.{Piece}
+use Rattle.std.proofs.Common.{MatchResult, cond, set, Result, Ok, Err, ◌≡◌, ℕ, suc, ◌+◌, ◌<◌, ◌≤◌, true, false, List, [], ◌∷◌, ◌++◌, map, length, take, drop, is_some, Some, None, Option, sym, refl, ap, ◌∙◌, arith}
+use Rattle.std.proofs.lemmas.List.{map-set, drop-map, take-map}
+use Rattle.arrayvec.specs.ArrayVec.{ArrayVec}
+use Rattle.std.specs.List.{list_any, list_all}
+use Rattle.std.specs.Result.{result_ok}
 use Rattle.receiver.specs.declared.place.Place.{Place}
-use Rattle.receiver.specs.Places.{piece_of, joined}
-use Rattle.rules.specs.Receiving.{any, before, gathered, packet_to}
-use Rattle.rules.proofs.Lists.{get_or_map}
-
--- what is read behind the end of a row of rooms
-abbrev pub nothing : Piece
-nothing = record { held = false; len = 0; octets = [] }
+use Rattle.receiver.specs.Places.{piece_of, place_of, joined}
+use Rattle.rules.specs.Receiving.{Bdu, any, added, before, gathered, packet_to}
 
 -- what is read behind the end of a row of places
 abbrev pub nowhere : Place
 nowhere = record { opened = 0; last = None; pieces = [] }
 
--- what is shown of the room at a place
-pub piece_at : (ps : List Piece) (k : ℕ) → get_or (map piece_of ps) k None ≡ piece_of (get_or ps k nothing)
-piece_at ps k = get_or_map piece_of ps nothing k
+-- a BDU that is put in: it has room
+pub put_is : {E : Type 0} (r : Result (ArrayVec ℕ) E) (xs : List ℕ) → MatchResult r (λ v. (v.items ≡ xs) × (length xs ≤ 53)) (λ _. 53 < length xs) → length xs ≤ 53 → piece_of (result_ok r) ≡ Some xs
+put_is (Ok octets) xs fits l = ap Some fits.0
+put_is (Err e) xs fits l = absurd (omega arith)
 
--- the same among the first ones
-pub piece_in : (ps : List Piece) (count k : ℕ) → k < count → get_or (take count (map piece_of ps)) k None ≡ piece_of (get_or ps k nothing)
-piece_in ps count k l = get_or-take count (map piece_of ps) k None l ∙ piece_at ps k
-
--- how many the first ones are
-pub length_in : (ps : List Piece) (count : ℕ) → length (take count (map piece_of ps)) ≡ min count (length ps)
-length_in ps count = length-take count (map piece_of ps) ∙ ap (min count) (length-map ps piece_of)
+-- a place with a BDU, step by step: the first one opens it, the last one is known, and the octets are put in
+pub added_is : (old opened ended : Place) (put : Option (ArrayVec ℕ)) (u : Bdu) (slot i : ℕ)
+    → opened ≡ record { opened = cond (any (map piece_of old.pieces)) old.opened slot; last = old.last; pieces = old.pieces }
+    → ended ≡ record { opened = opened.opened; last = cond u.more opened.last (Some u.bsn); pieces = opened.pieces }
+    → piece_of put ≡ Some u.octets → i ≡ u.bsn
+    → place_of (record { opened = ended.opened; last = ended.last; pieces = set ended.pieces i put }) ≡ added (place_of old) u slot
+added_is old opened ended put u slot i o e p j =
+    ap (λ x. place_of (record { opened = x.opened; last = x.last; pieces = set x.pieces i put })) e
+    ∙ ap (λ x. place_of (record { opened = x.opened; last = cond u.more x.last (Some u.bsn); pieces = set x.pieces i put })) o
+    ∙ ap (λ ps. record { opened = cond (any (map piece_of old.pieces)) old.opened slot; pieces = ps; last = cond u.more old.last (Some u.bsn) })
+    (map-set piece_of old.pieces i put ∙ ap (set (map piece_of old.pieces) i) p ∙ ap (λ k. set (map piece_of old.pieces) k (Some u.octets)) j)
 
 -- ## some are held
 
-pub any_more : (ps : List (Option (List ℕ))) (i : ℕ) (b : Bool) → i < length ps → b ≡ is_some (get_or ps i None) → any (drop i ps) ≡ b || any (drop (i + 1) ps)
-any_more ps i b l e = at_drop_more any ps i None l ∙ ap (λ x. x || any (drop (i + 1) ps)) (sym e)
+any_held : (ps : List (Option (ArrayVec ℕ))) → list_any is_some ps ≡ any (map piece_of ps)
+any_held [] = refl
+any_held (None ∷ ps) = any_held ps
+any_held (Some octets ∷ ps) = refl
 
-pub any_end : (ps : List (Option (List ℕ))) (i : ℕ) → length ps ≤ i → any (drop i ps) ≡ false
-any_end ps i l = at_drop_all any ps i l
+pub any_behind : (n : ℕ) (ps : List (Option (ArrayVec ℕ))) → list_any is_some (drop n ps) ≡ any (drop n (map piece_of ps))
+any_behind n ps = any_held (drop n ps) ∙ ap any (sym (drop-map piece_of n ps))
 
 -- ## all are held
 
@@ -41,22 +45,13 @@ before_some : (xs : List ℕ) (o : Option (List ℕ)) → is_some (before xs o) 
 before_some xs None = refl
 before_some xs (Some ys) = refl
 
-gathered_cons : (o : Option (List ℕ)) (ps : List (Option (List ℕ))) → is_some o ≡ true → is_some (gathered (o ∷ ps)) ≡ is_some (gathered ps)
-gathered_cons None ps e = absurd (let z : ◌≡◌ {A = ℕ} 0 1 = cc in omega arith)
-gathered_cons (Some xs) ps e = before_some xs (gathered ps)
+all_held : (ps : List (Option (ArrayVec ℕ))) → list_all is_some ps ≡ is_some (gathered (map piece_of ps))
+all_held [] = refl
+all_held (None ∷ ps) = refl
+all_held (Some octets ∷ ps) = all_held ps ∙ sym (before_some octets.items (gathered (map piece_of ps)))
 
-gathered_gap : (o : Option (List ℕ)) (ps : List (Option (List ℕ))) → is_some o ≡ false → is_some (gathered (o ∷ ps)) ≡ false
-gathered_gap None ps e = refl
-gathered_gap (Some xs) ps e = absurd (let z : ◌≡◌ {A = ℕ} 0 1 = cc in omega arith)
-
-pub gathered_more : (ps : List (Option (List ℕ))) (i : ℕ) → i < length ps → is_some (get_or ps i None) ≡ true → is_some (gathered (drop i ps)) ≡ is_some (gathered (drop (i + 1) ps))
-gathered_more ps i l e = at_drop_more (λ x. is_some (gathered x)) ps i None l ∙ gathered_cons _ _ e
-
-pub gathered_stop : (ps : List (Option (List ℕ))) (i : ℕ) → i < length ps → is_some (get_or ps i None) ≡ false → is_some (gathered (drop i ps)) ≡ false
-gathered_stop ps i l e = at_drop_more (λ x. is_some (gathered x)) ps i None l ∙ gathered_gap _ _ e
-
-pub gathered_end : (ps : List (Option (List ℕ))) (i : ℕ) → length ps ≤ i → is_some (gathered (drop i ps)) ≡ true
-gathered_end ps i l = at_drop_all (λ x. is_some (gathered x)) ps i l
+pub all_before : (n : ℕ) (ps : List (Option (ArrayVec ℕ))) → list_all is_some (take n ps) ≡ is_some (gathered (take n (map piece_of ps)))
+all_before n ps = all_held (take n ps) ∙ ap (λ x. is_some (gathered x)) (sym (take-map piece_of n ps))
 
 -- where all are held, they are gathered as they are joined
 before_is : (xs ys : List ℕ) (o : Option (List ℕ)) → o ≡ Some ys → before xs o ≡ Some (xs ++ ys)
@@ -87,13 +82,3 @@ module _ (ps : List (Option (List ℕ))) (last : Option ℕ) (l : ℕ) (is : las
   -- none is missing: it is all that is held
   pub packet_whole : is_some (gathered (take (l + 1) ps)) ≡ true → packet_to last ps ≡ Some (joined (take (l + 1) ps))
   packet_whole e = packet_is ∙ gathered_joined (take (l + 1) ps) e
-
--- ## joined one by one
-
-joined_append : (ps qs : List (Option (List ℕ))) → joined (ps ++ qs) ≡ joined ps ++ joined qs
-joined_append [] qs = refl
-joined_append (None ∷ ps) qs = joined_append ps qs
-joined_append (Some xs ∷ ps) qs = ap (λ r. xs ++ r) (joined_append ps qs) ∙ sym (append_assoc xs (joined ps) (joined qs))
-
-pub joined_more : (ps : List (Option (List ℕ))) (i : ℕ) → i < length ps → joined (take (i + 1) ps) ≡ joined (take i ps) ++ joined (get_or ps i None ∷ [])
-joined_more ps i l = ap joined (take_more ps i None l) ∙ joined_append (take i ps) (get_or ps i None ∷ [])

@@ -1,27 +1,22 @@
 -- The places of a receiving half in code, as the rules see them.
-use Rattle.std.specs.Prelude.{◌≡◌, ℕ, ◌≤◌, cond, List, [], ◌∷◌, ◌++◌, map, length, take, drop, Some, None, Option}
-use Rattle.std.specs.Borrow.{Bor}
-use Rattle.frame.specs.declared.header.BduHeader.{BduHeader}
-use Rattle.receiver.specs.declared.place.Piece.{Piece}
+use Rattle.std.specs.Prelude.{◌≡◌, ℕ, List, [], ◌∷◌, ◌++◌, map, length, drop, Some, None, Option}
+use Rattle.arrayvec.specs.ArrayVec.{ArrayVec}
+use Rattle.frame.specs.declared.bdu.Bdu.{Bdu as Code}
 use Rattle.receiver.specs.declared.place.Place.{Place}
 use Rattle.rules.specs.Receiving.{Bdu}
 use Rattle.rules.specs.Receiving as rule
 
--- what a room for one BDU holds
-abbrev pub piece_of : Piece → Option (List ℕ)
-piece_of p = cond p.held (Some (take p.len p.octets)) None
-
--- the octets of the BDU that is held, as a part of the room's
-abbrev pub HeldPart : Option (List ℕ) → Option (Bor (List ℕ)) → Type 0
-HeldPart held None = held ≡ None
-HeldPart held (Some part) = (held ≡ Some part.now) × (length part.now ≤ 53)
+-- what is held of one BDU: its octets
+abbrev pub piece_of : Option (ArrayVec ℕ) → Option (List ℕ)
+piece_of None = None
+piece_of (Some octets) = Some octets.items
 
 abbrev pub place_of : Place → rule.Place
 place_of p = record { opened = p.opened; pieces = map piece_of p.pieces; last = p.last }
 
--- a BDU by its header and its octets
-abbrev pub bdu_of : BduHeader → List ℕ → Bdu
-bdu_of h octets = record { q = h.q; rn = h.rn; more = h.more; bsn = h.bsn; octets = octets }
+-- a BDU in code, as the rules see it
+abbrev pub bdu_of : Code → Bdu
+bdu_of b = record { q = b.header.q; rn = b.header.rn; more = b.header.more; bsn = b.header.bsn; octets = b.payload.now }
 
 -- what is held, one BDU behind the other
 abbrev pub joined : List (Option (List ℕ)) → List ℕ

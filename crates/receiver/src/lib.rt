@@ -1,7 +1,7 @@
 //! The receiving half of an end, one text for both directions.
 #![tactic(auto)]
 
-pub use receiver::{Receiver, Taken};
+pub use receiver::{HandUp, Receiver};
 
 mod place;
 mod receiver;

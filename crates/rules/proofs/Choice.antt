@@ -1,5 +1,5 @@
 -- The search in one row finds the BDU to send.
-use Rattle.std.proofs.Common.{◌≡◌, ℕ, zero, suc, ◌+◌, ◌*◌, ◌/◌, ◌%◌, ◌<◌, true, false, cond, ltb, ◌⊎◌, List, Some, None, Option, sym, refl, ap, ◌∙◌, subst, inl, inr, ⊎_elim, add-one, arith}
+use Rattle.std.proofs.Common.{◌≡◌, ℕ, zero, suc, ◌+◌, ◌*◌, ◌/◌, ◌%◌, ◌<◌, true, false, cond, ltb, ◌⊎◌, List, Some, None, Option, sym, refl, ap, ◌∙◌, subst, inl, inr, ⊎_elim, arith}
 use Rattle.std.proofs.lemmas.Bool.{cases_eq, both_ways, and_parts, and_from, ltb-true, lt-ltb, cond_both}
 use Rattle.rules.specs.Sending.{BduKey, Progress, Standing, Outgoing, Sending, packet, place, pieces, is_pending, Waits, Before}
 use Rattle.rules.specs.Choice.{nth, is_waiting, since_of, waiting, since, goes, better, chosen, Chosen, FindsNext}
@@ -17,7 +17,7 @@ pending_is (Standing.Pending since) e = refl
 pending_is (Standing.Resting until) e = never (cc)
 
 -- what the search has found among the first n
-abbrev Leads : List Outgoing → ℕ → Option BduKey → Type 0
+abbrev pub Leads : List Outgoing → ℕ → Option BduKey → Type 0
 Leads ps n None = (y : ℕ) → y < n → waiting ps (nth y) ≡ false
 Leads ps n (Some b) = (x : ℕ) × (x < n) × (b ≡ nth x) × (waiting ps b ≡ true) × ((y : ℕ) → y < n → waiting ps (nth y) ≡ true → Before b (since ps b) (nth y) (since ps (nth y)))
 
@@ -71,7 +71,7 @@ module _ (S : Sending) where
         and_from (is_pending o.standing) _ (ap is_pending v.pending) (and_from (ltb (x % 8) (pieces o.octets)) _ (lt-ltb _ _ v.bsn) (ap is_waiting v.waits)),
       )
 
-  found : (r : Option BduKey) → Leads S.packets 128 r → Chosen S r
+  pub found : (r : Option BduKey) → Leads S.packets 128 r → Chosen S r
   found None h = λ c t w. let x = waits_test c t w in both_ways _ (h x.0 x.1) x.4
   found (Some b) h = (
     since S.packets b,
@@ -85,12 +85,3 @@ module _ (S : Sending) where
 
 pub finds_next : FindsNext
 finds_next S = found S (chosen S.packets 128) (leads S.packets 128)
-
--- the search goes on
-pub chosen_none : (ps : List Outgoing) → chosen ps 0 ≡ None
-unfolding chosen
-chosen_none ps = refl
-
-pub chosen_more : (ps : List Outgoing) (n : ℕ) → chosen ps (n + 1) ≡ better ps (chosen ps n) (nth n)
-unfolding chosen
-chosen_more ps n = rw add-one refl

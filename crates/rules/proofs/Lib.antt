@@ -14,3 +14,4 @@ pub mod ReceivingLaws
 pub mod Examples
 pub mod Octets
 pub mod Sweeps
+pub mod Made

@@ -4,7 +4,7 @@ ghost use Rattle.frame.specs.declared.fault.Layer.TheVariants.{End};
 ghost use Rattle.rules.specs.Refusals.{refusal_of};
 ghost use Rattle.rules.specs.declared.fault.EndFault.TheVariants as faults;
 
-use frame::{FrameFault, Layer, Refusal};
+use frame::{FrameFault, Layer, Reason, Refusal};
 
 /// What an end refuses.
 #[derive(Clone, Copy)]
@@ -32,32 +32,32 @@ pub enum EndFault {
 }
 
 /// A refusal that the end itself makes.
-fn of_end(number: u8) -> Refusal
-    ensures { result ≡ record { number = number; layer = End; place = None } }
+fn of_end(reason: Reason) -> Refusal
+    ensures { result ≡ record { reason = reason; layer = End; place = None } }
 {
     Refusal {
-        number,
+        reason,
         layer: Layer::End,
         place: None,
     }
 }
 
-impl EndFault {
-    /// The number, layer and place of this refusal. What the frame layer refused comes up unaltered.
-    pub fn refusal(self) -> Refusal
-        ensures { result ≡ refusal_of self }
-    {
-        match self {
-            EndFault::Slot => of_end(1),
-            EndFault::Packet => of_end(2),
-            EndFault::Buffer => of_end(3),
-            EndFault::Frame(fault) => fault.refusal(),
-            EndFault::LogOn => of_end(5),
-            EndFault::Elsewhere => of_end(6),
-            EndFault::Number => of_end(7),
-            EndFault::Contradiction => of_end(8),
-            EndFault::NoReference => of_end(9),
-            EndFault::Aircraft => of_end(10),
+impl From<EndFault> for Refusal {
+    ghost from_gives = { λ fault r. r ≡ refusal_of fault };
+
+    /// The reason, layer and place of what an end refuses. What the frame layer refused comes up unaltered.
+    fn from(fault: EndFault) -> Refusal {
+        match fault {
+            EndFault::Slot => of_end(Reason::Slot),
+            EndFault::Packet => of_end(Reason::Packet),
+            EndFault::Buffer => of_end(Reason::Buffer),
+            EndFault::Frame(fault) => Refusal::from(fault),
+            EndFault::LogOn => of_end(Reason::LogOn),
+            EndFault::Elsewhere => of_end(Reason::Elsewhere),
+            EndFault::Number => of_end(Reason::Number),
+            EndFault::Contradiction => of_end(Reason::Contradiction),
+            EndFault::NoReference => of_end(Reason::NoReference),
+            EndFault::Aircraft => of_end(Reason::Aircraft),
         }
     }
 }

@@ -1,21 +1,16 @@
 -- From what the code finds to what the calls of a sending half promise.
-use Rattle.std.proofs.Common.{◌≡◌, ℕ, ◌+◌, ◌*◌, ◌<◌, ◌≤◌, Bool, true, false, ◌||◌, ltb, List, [], ◌∷◌, ◌++◌, map, length, drop, set, replicate, Some, None, Ok, Err, Result, sym, refl, ap, ◌∙◌, subst, arith, length-drop, length-take}
-use Rattle.std.proofs.lemmas.List.{map-set}
-use Rattle.std.proofs.lemmas.Bool.{le-ltb, ltb-true, ne_eqb, or_from}
+use Rattle.std.proofs.Common.{◌≡◌, ℕ, ◌+◌, ◌*◌, ◌<◌, ◌≤◌, Bool, true, false, ltb, List, [], ◌∷◌, ◌++◌, map, length, drop, set, replicate, Some, Ok, Err, Result, sym, refl, ap, ◌∙◌, subst, arith, length-drop, length-take}
+use Rattle.std.proofs.lemmas.Bool.{ltb-true}
 use Rattle.frame.specs.Numbers.{advanced}
 use Rattle.rules.specs.Ends.{Rows, refused_by}
-use Rattle.rules.specs.Sending.{Outgoing, Sending, packet, place, pieces, piece, passed, accepted, Waits, Next, Answer, Sends, opening, sent, is_whole, closed, credit, judge, lead, heard}
+use Rattle.rules.specs.Sending.{Outgoing, Sending, packet, place, pieces, piece, Waits, Next, Answer, Sends, opening, sent, is_whole, closed, credit, judge, lead, heard}
 use Rattle.rules.specs.declared.fault.EndFault.{EndFault}
 use Rattle.rules.specs.declared.fault.EndFault.TheVariants as fault
 use Rattle.rules.specs.declared.window.BduKey.{BduKey}
 use Rattle.rules.specs.declared.window.Mark.{Mark}
-use Rattle.rules.specs.declared.window.Progress.{Progress}
-use Rattle.rules.specs.declared.window.Standing.{Standing}
 use Rattle.sender.specs.Hearings.{tells}
-use Rattle.sender.specs.Senders.{accept_rows, key_of, flagged, hearing_of, payload_of, Fitting, Outcome, Foretells}
+use Rattle.sender.specs.Senders.{key_of, flagged, hearing_of, payload_of, Fitting, Outcome, Foretells}
 use Rattle.frame.specs.declared.header.BduHeader.{BduHeader}
-use Rattle.sender.specs.Packets.{packet_of}
-use Rattle.sender.specs.declared.packet.Packet.{Packet}
 use Rattle.sender.specs.Sets.{marked}
 use Rattle.sender.specs.declared.hearing.Hearing.{Hearing}
 use Rattle.sender.specs.declared.set.PacketSet.{PacketSet}
@@ -27,12 +22,6 @@ refuses b f rows e = ap (λ x. refused_by ((x, f) ∷ rows)) e
 
 pub passes : (b : Bool) (f : EndFault) (rows : Rows) → b ≡ false → refused_by ((b, f) ∷ rows) ≡ refused_by rows
 passes b f rows e = ap (λ x. refused_by ((x, f) ∷ rows)) e
-
-pub accept_open : (S : Sending) (q : ℕ) (octets : List ℕ) → 1 ≤ length octets → length octets ≤ 424 → q ≤ 3 → passed S q < 4 → refused_by (accept_rows S q octets) ≡ None
-accept_open S q octets some most small free =
-    let n : ℕ = length octets in
-    passes _ fault.Packet _ (or_from (ltb n 1) (ltb 424 n || ltb 3 q) (le-ltb n 1 some) (or_from (ltb 424 n) (ltb 3 q) (le-ltb 424 n most) (le-ltb 3 q small)))
-    ∙ passes _ fault.NoReference [] (ne_eqb (passed S q) 4 (λ e. omega arith))
 
 -- the answer to a report
 outcome_foretells : (R octet now : ℕ) (S : Sending) (r : Result PacketSet EndFault) → Outcome (hearing_of R octet now S) S.window S.packets r → Foretells R (flagged octet) now S r
@@ -62,13 +51,6 @@ module _ (S : Sending) (R octet now by oldest : ℕ) (judged moved : List Mark) 
       → moved ≡ drop by judged ++ replicate by Mark.Unused → oldest ≡ advanced S.oldest by → record { oldest = oldest; window = moved; packets = packets; last = S.last } ≡ heard R (flagged octet) now S
   heard_is h e p j b m o =
       heard_so (subst (λ x. packets ≡ map closed (credit (tells x) x.slot S.window S.packets)) e p) (subst (λ x. judged ≡ judge (tells x) x.slot S.window) e j) b m o
-
--- the half after an accept
-pub accepted_is : (g : ℕ) (ms : List Mark) (ps : List Packet) (last octets : List ℕ) (q rn slot : ℕ) (x : Packet) → packet_of x ≡ record { standing = Standing.Pending slot; octets = octets; bdus = replicate 8 Progress.Waiting }
-    → record { oldest = g; window = ms; packets = map packet_of (set ps (4 * q + rn) x); last = set last q rn } ≡ accepted q rn octets slot (record { oldest = g; window = ms; packets = map packet_of ps; last = last })
-accepted_is g ms ps last octets q rn slot x e =
-    let after : List Outgoing → Sending = λ y. record { oldest = g; window = ms; packets = y; last = set last q rn } in
-    ap after (map-set packet_of ps (4 * q + rn) x ∙ ap (set (map packet_of ps) (4 * q + rn)) e)
 
 -- what is chosen makes a BDU
 pub chosen_fits : (S : Sending) (b : BduKey) (since : ℕ) (h : BduHeader) → Waits S b since → length (packet S (place b)).octets ≤ 424

@@ -1,5 +1,7 @@
 pub mod Firsts
-pub mod Packets
+pub mod Along
+pub mod PacketRow
+pub mod Ranking
 pub mod Crediting
 pub mod Sets
 pub mod Answering

@@ -1,6 +1,7 @@
 -- Sets of packets as lists of places.
-use Rattle.std.proofs.Common.{◌≡◌, ℕ, zero, suc, ◌+◌, ◌*◌, ◌/◌, ◌%◌, ◌<◌, ◌≤◌, Bool, true, false, cond, List, [], ◌∷◌, map, length, get_or, drop, refl, ap, ◌∙◌, subst, inl, inr, ⊎_elim, arith}
-use Rattle.std.proofs.lemmas.List.{at_drop_more, at_drop_all, get_or_past}
+use Rattle.std.proofs.Common.{◌≡◌, ℕ, zero, suc, ◌+◌, ◌*◌, ◌/◌, ◌%◌, ◌<◌, Bool, true, false, cond, List, [], ◌∷◌, map, length, get_or, refl, ap, subst, inl, inr, ⊎_elim, arith}
+use Rattle.std.proofs.lemmas.List.{get_or_past}
+use Rattle.std.specs.List.{filter}
 use Rattle.std.proofs.lemmas.Bool.{cases_lt}
 use Rattle.sender.specs.Sets.{marked, Contains}
 use Rattle.rules.specs.Ends.{named}
@@ -61,17 +62,7 @@ small bs q rn n a =
 
 -- ## how many
 
-count_from : (i j : ℕ) (bs : List Bool) → length (marked i bs) ≡ length (marked j bs)
-count_from i j [] = refl
-count_from i j (true ∷ bs) = ap suc (count_from (suc i) (suc j) bs)
-count_from i j (false ∷ bs) = count_from (suc i) (suc j) bs
-
-pub count_set : (bs : List Bool) (i : ℕ) → i < length bs → get_or bs i false ≡ true → length (marked 0 (drop i bs)) ≡ suc (length (marked 0 (drop (i + 1) bs)))
-count_set bs i l e =
-    at_drop_more (λ x. length (marked 0 x)) bs i false l ∙ ap (λ b. length (marked 0 (b ∷ drop (i + 1) bs))) e ∙ ap suc (count_from 1 0 (drop (i + 1) bs))
-
-pub count_unset : (bs : List Bool) (i : ℕ) → i < length bs → get_or bs i false ≡ false → length (marked 0 (drop i bs)) ≡ length (marked 0 (drop (i + 1) bs))
-count_unset bs i l e = at_drop_more (λ x. length (marked 0 x)) bs i false l ∙ ap (λ b. length (marked 0 (b ∷ drop (i + 1) bs))) e ∙ count_from 1 0 (drop (i + 1) bs)
-
-pub count_end : (bs : List Bool) (i : ℕ) → length bs ≤ i → length (marked 0 (drop i bs)) ≡ 0
-count_end bs i l = at_drop_all (λ x. length (marked 0 x)) bs i l
+pub count_marked : (i : ℕ) (bs : List Bool) → length (filter (λ b. b) bs) ≡ length (marked i bs)
+count_marked i [] = refl
+count_marked i (true ∷ bs) = ap suc (count_marked (suc i) bs)
+count_marked i (false ∷ bs) = count_marked (suc i) bs

@@ -1,5 +1,6 @@
 -- What a report makes of the numbers of a window, and of their BDUs.
-use Rattle.std.specs.Prelude.{ℕ, zero, suc, Bool, true, false, cond, List, Some, None, Option, ◌==◌, slice_index_or, slice_set}
+use Rattle.std.specs.Prelude.{ℕ, Bool, true, false, cond, List, Some, None, Option, ◌==◌, fold, slice_index_or, slice_set}
+use Rattle.std.specs.List.{enumerate_from}
 use Rattle.sender.specs.declared.mark.Verdict.{Verdict}
 use Rattle.sender.specs.declared.hearing.Hearing.{Hearing}
 use Rattle.rules.specs.Sending.{place, told, judged, is_old}
@@ -7,38 +8,32 @@ use Rattle.rules.specs.declared.window.BduKey.{BduKey}
 use Rattle.rules.specs.declared.window.Mark.{Mark}
 use Rattle.rules.specs.declared.window.Progress.{Progress}
 
--- the BDU that moves on with its number, told of or old
-abbrev pub freed : Mark → Bool → Bool → Option BduKey
-freed Mark.Unused tell old = None
-freed (Mark.OnItsWay slot bdu) true old = bdu
-freed (Mark.OnItsWay slot bdu) false true = bdu
-freed (Mark.OnItsWay slot bdu) false false = None
-freed Mark.Acknowledged tell old = None
-freed Mark.Returned tell old = None
-
--- how far it is then
-abbrev pub becomes : Mark → Bool → Progress
-becomes Mark.Unused tell = Progress.Waiting
-becomes (Mark.OnItsWay slot bdu) true = Progress.Acknowledged
-becomes (Mark.OnItsWay slot bdu) false = Progress.Waiting
-becomes Mark.Acknowledged tell = Progress.Waiting
-becomes Mark.Returned tell = Progress.Waiting
+-- the BDU that moves on with its number, told of or old, and how far it is then
+abbrev pub moved_by : Mark → Bool → Bool → Option (BduKey × Progress)
+moved_by Mark.Unused tell old = None
+moved_by (Mark.OnItsWay slot None) tell old = None
+moved_by (Mark.OnItsWay slot (Some b)) true old = Some (b, Progress.Acknowledged)
+moved_by (Mark.OnItsWay slot (Some b)) false true = Some (b, Progress.Waiting)
+moved_by (Mark.OnItsWay slot (Some b)) false false = None
+moved_by Mark.Acknowledged tell old = None
+moved_by Mark.Returned tell old = None
 
 abbrev pub verdict : Mark → Bool → Bool → Verdict
-verdict mark tell old = record { mark = judged mark tell old; bdu = freed mark tell old; to = becomes mark tell }
+verdict mark tell old = record { mark = judged mark tell old; moved = moved_by mark tell old }
 
 -- the report acknowledges the entry k of the window
 abbrev pub tells : Hearing → ℕ → Bool
 tells h = told h.gap (λ i. slice_index_or h.flags i false)
 
--- a BDU goes on, if it is one of the packet at this place
-abbrev pub step : ℕ → Option BduKey → Progress → List Progress → List Progress
-step p None to bdus = bdus
-step p (Some b) to bdus = cond (place b == p) (slice_set bdus b.bsn to) bdus
+-- a BDU that moves on does so, if it is one of the packet at this place
+abbrev pub step : ℕ → Option (BduKey × Progress) → List Progress → List Progress
+step p None bdus = bdus
+step p (Some m) bdus = cond (place m.0 == p) (slice_set bdus m.0.bsn m.1) bdus
 
--- how far the BDUs of the packet at a place are after the first n numbers are judged
-unfoldable pub credit_of : ℕ → (ℕ → Bool) → ℕ → List Mark → List Progress → ℕ → List Progress
-credit_of p tell now ms bdus zero = bdus
-credit_of p tell now ms bdus (suc n) =
-    let m : Mark = slice_index_or ms n Mark.Unused in
-    step p (freed m (tell n) (is_old now m)) (becomes m (tell n)) (credit_of p tell now ms bdus n)
+-- how far the BDUs of the packet at a place are after one number more is judged, which is given with its place in the window
+abbrev pub credit_step : ℕ → (ℕ → Bool) → ℕ → List Progress → ℕ × Mark → List Progress
+credit_step p tell now bdus m = step p (moved_by m.1 (tell m.0) (is_old now m.1)) bdus
+
+-- and after all of them
+abbrev pub credit_of : ℕ → (ℕ → Bool) → ℕ → List Mark → List Progress → List Progress
+credit_of p tell now ms bdus = fold (credit_step p tell now) bdus (enumerate_from 0 ms)

@@ -13,17 +13,12 @@ use Rattle.rules.specs.declared.window.Mark.{Mark}
 use Rattle.rules.specs.declared.fault.EndFault.{EndFault}
 use Rattle.rules.specs.declared.fault.EndFault.TheVariants as fault
 use Rattle.sender.specs.Hearings.{tells}
-use Rattle.sender.specs.Packets.{packet_of}
 use Rattle.sender.specs.Sets.{places_in}
-use Rattle.sender.specs.declared.choice.Choice.{Choice}
-use Rattle.sender.specs.declared.choice.Choice.TheVariants.{Idle, Full, Shut, Next}
+use Rattle.sender.specs.declared.choice.Pause.{Pause}
+use Rattle.sender.specs.declared.choice.Pause.TheVariants.{Idle, Full, Shut}
 use Rattle.sender.specs.declared.choice.ToSend.{ToSend}
 use Rattle.sender.specs.declared.hearing.Hearing.{Hearing}
-use Rattle.sender.specs.declared.sender.Sender.{Sender}
 use Rattle.sender.specs.declared.set.PacketSet.{PacketSet}
-
-abbrev pub sending : {D N : Type 0} → Ghosts N → Sender D N → Sending
-sending g h = record { oldest = g.value h.oldest; window = h.window; packets = map packet_of h.packets; last = h.last }
 
 -- ## accept
 
@@ -47,23 +42,21 @@ abbrev pub payload_of : Sending → BduHeader → List ℕ
 payload_of S h = piece (packet S (place (key_of h))).octets h.bsn
 
 -- what send's rule answers, and the half after it
-abbrev pub answer_of : {N : Type 0} → Ghosts N → Sending → Choice N → Answer
-answer_of g S Idle = Answer.NoneIdle
-answer_of g S Full = Answer.NoneFull
-answer_of g S Shut = Answer.NoneShut
-answer_of g S (Next x) = Answer.Sent (g.value x.number) (key_of x.header) x.header.more (payload_of S x.header)
+abbrev pub answer_of : {N : Type 0} → Ghosts N → Sending → Result (ToSend N) Pause → Answer
+answer_of g S (Err Idle) = Answer.NoneIdle
+answer_of g S (Err Full) = Answer.NoneFull
+answer_of g S (Err Shut) = Answer.NoneShut
+answer_of g S (Ok x) = Answer.Sent (g.value x.number) (key_of x.header) x.header.more (payload_of S x.header)
 
 abbrev pub sent_by : {N : Type 0} → ToSend N → ℕ → Sending → Sending
 sent_by x now S = sent (key_of x.header) x.entry now S
 
-abbrev pub after_choice : {N : Type 0} → Choice N → ℕ → Sending → Sending
-after_choice Idle now S = S
-after_choice Full now S = S
-after_choice Shut now S = S
-after_choice (Next x) now S = sent_by x now S
+abbrev pub after_choice : {N : Type 0} → Result (ToSend N) Pause → ℕ → Sending → Sending
+after_choice (Err why) now S = S
+after_choice (Ok x) now S = sent_by x now S
 
 -- the choice is what send's rule answers, in whatever slot
-abbrev pub Chooses : {N : Type 0} → Ghosts N → ℕ → Sending → Choice N → Type 0
+abbrev pub Chooses : {N : Type 0} → Ghosts N → ℕ → Sending → Result (ToSend N) Pause → Type 0
 Chooses g count S choice = (now : ℕ) → Sends now count S (answer_of g S choice) (after_choice choice now S)
 
 -- a header and octets that make a BDU
@@ -77,11 +70,9 @@ pub record Fitting (h : BduHeader) (payload : List ℕ) : Type 0 where
   pub full : h.more ≡ true → length payload ≡ 53
 
 -- what is chosen makes a BDU
-abbrev pub Sendable : {N : Type 0} → Sending → Choice N → Type 0
-Sendable S Idle = Unit {0}
-Sendable S Full = Unit {0}
-Sendable S Shut = Unit {0}
-Sendable S (Next x) = Fitting x.header (payload_of S x.header)
+abbrev pub Sendable : {N : Type 0} → Sending → Result (ToSend N) Pause → Type 0
+Sendable S (Err why) = Unit {0}
+Sendable S (Ok x) = Fitting x.header (payload_of S x.header)
 
 -- ## report
 

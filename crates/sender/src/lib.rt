@@ -1,15 +1,17 @@
 //! The sending half of an end, one text for both directions.
 #![tactic(auto)]
 
-pub use choice::{Choice, ToSend};
+pub use choice::{Pause, ToSend};
 pub use sender::Sender;
 pub use set::PacketSet;
 
-mod aging;
 mod choice;
 mod hearing;
 mod mark;
+mod outgoing;
 mod packet;
+mod packets;
 mod sender;
 mod set;
 mod standing;
+mod window;

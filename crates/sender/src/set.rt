@@ -2,6 +2,8 @@
 ghost use Rattle.std.specs.Prelude.{◌≡◌, length};
 ghost use Rattle.sender.specs.Sets.{packets_in, Contains};
 
+use rules::place;
+
 /// Packets of a sending half, by priority and reference number.
 #[derive(Clone, Copy)]
 pub struct PacketSet {
@@ -13,22 +15,13 @@ impl PacketSet {
     pub fn contains(self, q: u8, rn: u8) -> bool
         ensures { Contains (packets_in self) (q, rn) result }
     {
-        if q > 3 || rn > 3 {
-            return false;
-        }
-        self.marks[4 * (q as usize) + rn as usize]
+        rn < 4 && self.marks.get(place(q, rn)).copied().unwrap_or(false)
     }
 
     /// How many packets are in the set.
     pub fn len(self) -> usize
         ensures { result ≡ length (packets_in self) }
     {
-        let mut n = 0;
-        for mark in &self.marks {
-            if *mark {
-                n += 1;
-            }
-        }
-        n
+        self.marks.iter().filter(|mark| **mark).count()
     }
 }

@@ -1,45 +1,48 @@
-use Rattle.std.proofs.Common.{[], drop, codes, refl}
+use Rattle.std.proofs.Common.{[], codes, refl}
 use Rattle.std.proofs.lemmas.Result.{err_from_is_err_and}
 use Rattle.forms.proofs.Readings.{word_refused, word_then, number_refused, number_then, end_refused}
 use Rattle.forms.proofs.Sequences.{Numbered, Ended}
-use Rattle.forms.proofs.Slots.{Closed, no_digit, closed, one_slot, refused, spelled}
+use Rattle.forms.proofs.Slots.{Closed, no_digit, closed, one_slot, refused}
 use Rattle.forms.proofs.read.read_slot.Goals as goal
 
 pub returns-in_err-word : goal.returns-in_err-word
 returns-in_err-word c =
     let p = err_from_is_err_and c.from_residual.result c.from_residual.ensures.1 in
+    let start = c.new-cursor.result in
+    let fault = c.in_err-word.field-0.0 in
     rw (p.1, p.2)
-    (refused _ c.in_err-word.field-0.0 c.new-cursor.ensures.rest c.new-cursor.ensures.at
-    (word_refused (Numbered Closed) (codes "(slot ") (codes "0)") _ c.in_err-word.field-0.0 one_slot c.in_err-word.ensures))
+    (refused start fault c.new-cursor.ensures.left c.new-cursor.ensures.passed
+    (word_refused (Numbered Closed) (codes "(slot ") (codes "0)") start c.word.new.self fault one_slot c.in_err-word.ensures))
 
 pub returns-in_err-slot : goal.returns-in_err-slot
 returns-in_err-slot c =
     let p = err_from_is_err_and c.from_residual-in_err-slot.result c.from_residual-in_err-slot.ensures.1 in
+    let start = c.new-cursor.result in
+    let fault = c.in_err-slot.field-0.0 in
     rw (p.1, p.2)
-    (refused _ c.in_err-slot.field-0.0 c.new-cursor.ensures.rest c.new-cursor.ensures.at
-    (word_then (Numbered Closed) (codes "(slot ") _ c.in_err-slot.field-0.0 c.in_ok-word.ensures
-    (number_refused Closed (codes ")") _ c.in_err-slot.field-0.0 no_digit closed c.in_err-slot.ensures)))
+    (refused start fault c.new-cursor.ensures.left c.new-cursor.ensures.passed
+    (word_then (Numbered Closed) (codes "(slot ") start c.word.new.self fault c.in_ok-word.ensures
+    (number_refused Closed (codes ")") c.word.new.self c.number.new.self fault no_digit closed c.in_err-slot.ensures)))
 
 pub returns-in_err-word-2 : goal.returns-in_err-word-2
 returns-in_err-word-2 c =
     let p = err_from_is_err_and c.from_residual-in_err-word-2.result c.from_residual-in_err-word-2.ensures.1 in
+    let start = c.new-cursor.result in
+    let fault = c.in_err-word-2.field-0.0 in
     rw (p.1, p.2)
-    (refused _ c.in_err-word-2.field-0.0 c.new-cursor.ensures.rest c.new-cursor.ensures.at
-    (word_then (Numbered Closed) (codes "(slot ") _ c.in_err-word-2.field-0.0 c.in_ok-word.ensures
-    (number_then Closed _ c.in_err-word-2.field-0.0 no_digit c.in_ok-slot.ensures
-    (word_refused Ended (codes ")") [] _ c.in_err-word-2.field-0.0 refl c.in_err-word-2.ensures))))
+    (refused start fault c.new-cursor.ensures.left c.new-cursor.ensures.passed
+    (word_then (Numbered Closed) (codes "(slot ") start c.word.new.self fault c.in_ok-word.ensures
+    (number_then Closed c.word.new.self c.number.new.self fault no_digit c.in_ok-slot.ensures
+    (word_refused Ended (codes ")") [] c.number.new.self c.word-2.new.self fault refl c.in_err-word-2.ensures))))
 
 pub returns-in_err-end : goal.returns-in_err-end
 returns-in_err-end c =
     let p = err_from_is_err_and c.from_residual-in_err-end.result c.from_residual-in_err-end.ensures.1 in
+    let start = c.new-cursor.result in
+    let fault = c.in_err-end.field-0.0 in
     rw (p.1, p.2)
-    (refused _ c.in_err-end.field-0.0 c.new-cursor.ensures.rest c.new-cursor.ensures.at
-    (word_then (Numbered Closed) (codes "(slot ") _ c.in_err-end.field-0.0 c.in_ok-word.ensures
-    (number_then Closed _ c.in_err-end.field-0.0 no_digit c.in_ok-slot.ensures
-    (word_then Ended (codes ")") {behind = drop c.word-2.new.self.at c.word-2.new.self.line.now} {to = c.word-2.new.self.at} _ c.in_err-end.field-0.0 c.in_ok-word-2.ensures
-    (end_refused _ c.in_err-end.field-0.0 c.in_err-end.ensures)))))
-
-pub returns : goal.returns
-returns c =
-    spelled _ _ c.new-cursor.ensures.rest c.in_ok-word.ensures c.in_ok-slot.ensures c.in_ok-word-2.ensures
-    c.in_ok-end.ensures
+    (refused start fault c.new-cursor.ensures.left c.new-cursor.ensures.passed
+    (word_then (Numbered Closed) (codes "(slot ") start c.word.new.self fault c.in_ok-word.ensures
+    (number_then Closed c.word.new.self c.number.new.self fault no_digit c.in_ok-slot.ensures
+    (word_then Ended (codes ")") c.number.new.self c.word-2.new.self fault c.in_ok-word-2.ensures
+    (end_refused c.word-2.new.self fault c.in_err-end.ensures)))))

@@ -1,7 +1,6 @@
 use Rattle.std.proofs.Common.{◌≡◌, length}
-use Rattle.receiver.specs.Receivers.{receiving}
 use Rattle.half.proofs.Rounds.{clean}
 use Rattle.half.proofs.examples.go_round.Given as goal
 
 abbrev pub invariant-loop-k : goal.invariant-loop-k
-invariant-loop-k g l = (receiving g.D.Number.Number l.receiver ≡ clean l.k) × (length l.buffer ≡ 424)
+invariant-loop-k g l = (l.receiver ≡ clean l.k) × (length l.buffer ≡ 424)

@@ -1,20 +1,19 @@
 use Rattle.std.proofs.Common.{false, [], ◌∷◌, refl}
 use Rattle.rules.specs.Examples.{loaded, gone, key}
 use Rattle.rules.specs.Sending.{Sending, Answer, new}
-use Rattle.sender.specs.Senders.{sending}
 use Rattle.half.proofs.Chains.{returned, again, goes, waits, goes_again}
 use Rattle.half.proofs.Known.{accepts, went, hears}
 use Rattle.half.proofs.examples.send_again.Goals as goal
 
 pub returns : goal.returns
 returns g c =
-    let S0 : Sending = sending g.D.Number.Number c.new-sender.result in
-    let S1 : Sending = sending g.D.Number.Number c.accept.new.self in
-    let S2 : Sending = sending g.D.Number.Number c.go.new.sender in
-    let S3 : Sending = sending g.D.Number.Number c.hear.new.self in
-    let S4 : Sending = sending g.D.Number.Number c.go-early.new.sender in
-    let S5 : Sending = sending g.D.Number.Number c.hear-2.new.self in
-    let S6 : Sending = sending g.D.Number.Number c.go-late.new.sender in
+    let S0 : Sending = c.new-sender.result in
+    let S1 : Sending = c.accept.new.self in
+    let S2 : Sending = c.go.new.sender in
+    let S3 : Sending = c.hear.new.self in
+    let S4 : Sending = c.go-early.new.sender in
+    let S5 : Sending = c.hear-2.new.self in
+    let S6 : Sending = c.go-late.new.sender in
     let R = g.D.Number.Number.value c.from_octet.result in
     let a = accepts 2 10 (65 ∷ []) S0 new S1 c.accept.result c.new-sender.ensures c.accept.ensures.rule refl in
     let b = went 0 10 S1 (loaded 10) S2 (gone 10) c.go.result (Answer.Sent 0 (key 0) false (65 ∷ [])) a.1 c.go.ensures (goes 10) in

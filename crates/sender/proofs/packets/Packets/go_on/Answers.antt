@@ -1,0 +1,9 @@
+use Rattle.std.proofs.Common.{arith}
+use Rattle.sender.proofs.PacketRow.{packets_moved, packets_unmoved}
+use Rattle.sender.proofs.packets.Packets.go_on.Goals as goal
+
+pub returns-then-p-lt16 : goal.returns-then-p-lt16
+returns-then-p-lt16 c = rw (← c.self.view_is) (packets_moved c.args.bdu c.args.to c.self.inside.all c.place-p.result _ c.advance.new.self c.place-p.ensures (omega arith) c.advance.ensures)
+
+pub returns-else-p-lt16 : goal.returns-else-p-lt16
+returns-else-p-lt16 c = rw (← c.self.view_is) (packets_unmoved c.args.bdu c.args.to c.self.inside.all (omega arith))

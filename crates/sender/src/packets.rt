@@ -1,0 +1,207 @@
+//! The packets of a sending half, and which BDU of them goes next.
+ghost use Rattle.std.specs.Prelude.{◌≡◌, ◌+◌, ◌*◌, ◌<◌, ◌≤◌, Bool, MatchOption, map, length, replicate, nat_lt, slice_set};
+ghost use Rattle.rules.specs.Choice.{nth, waiting, since, Chosen};
+ghost use Rattle.rules.specs.Sending as rule;
+ghost use Rattle.rules.specs.declared.window.Standing.{Standing};
+ghost use Rattle.sender.specs.Hearings.{tells};
+ghost use Rattle.sender.specs.Packets.{packet_of, packet_in};
+ghost use Rattle.sender.specs.Standings.{standing_of};
+
+use crate::hearing::Hearing;
+use crate::packet::Packet;
+use crate::set::PacketSet;
+use crate::standing::Tenure;
+use crate::window::Window;
+use frame::BduHeader;
+use rules::{BduKey, Progress, place};
+use std::array;
+use std::cmp::Reverse;
+use std::marker::Model;
+
+/// The packets of a sending half, each at the place of its priority and reference number.
+#[derive(Drop)]
+pub(crate) struct Packets {
+    all: [Packet; 16],
+}
+
+impl Model for Packets {
+    ghost use Rattle.std.specs.Prelude.{◌≡◌, List, length, map};
+    ghost use Rattle.rules.specs.Sending.{Outgoing};
+
+    ghost Value = { List Outgoing };
+
+    ghost use Rattle.sender.specs.Packets.{packet_of};
+
+    ghost view = { λ packets. map packet_of packets.all };
+
+    ghost invariant = { λ packets. length packets.all ≡ 16 };
+}
+
+impl Packets {
+    /// Room for all packets.
+    pub(crate) fn new() -> Packets
+        ensures { result ≡ replicate 16 rule.empty }
+    {
+        Packets {
+            all: array::from_fn(|_| Packet::new()),
+        }
+    }
+
+    /// The packet of a priority and a reference number.
+    fn get(&self, q: u8, rn: u8) -> Option<&Packet>
+        ensures { MatchOption result
+            (packet_in self.now (4 * q + rn) ≡ rule.blank)
+            (λ p. packet_of p.now ≡ packet_in self.now (4 * q + rn)) }
+    {
+        self.all.get(place(q, rn))
+    }
+
+    /// Whether no packet holds a reference number of a priority.
+    pub(crate) fn is_free(&self, q: u8, rn: u8) -> bool
+        ensures { result ≡ rule.is_free (packet_in self.now (4 * q + rn)).standing }
+    {
+        self.get(q, rn)
+            .is_none_or(|packet| packet.standing.is_free())
+    }
+
+    /// Takes a packet under a priority and a reference number in a slot.
+    pub(crate) fn fill(&mut self, q: u8, rn: u8, octets: &[u8], slot: u32)
+        requires priority { q < 4 }
+        requires reference { rn < 4 }
+        requires fits { length octets.now ≤ 424 }
+        ensures { self.new ≡ slice_set self.old (4 * q + rn) (record {
+          standing = Standing.Pending slot;
+          octets = octets.now;
+          bdus = replicate 8 Progress.Waiting;
+        }) }
+    {
+        self.all[place(q, rn)].fill(octets, slot);
+    }
+
+    /// Whether a BDU waits.
+    fn waits(&self, bdu: BduKey) -> bool
+        ensures { result ≡ waiting self.now bdu }
+    {
+        self.get(bdu.q, bdu.rn)
+            .is_some_and(|packet| packet.has_waiting(bdu.bsn))
+    }
+
+    /// The slot in which a BDU's packet was accepted.
+    fn since(&self, bdu: BduKey) -> u32
+        ensures { result ≡ since self.now bdu }
+    {
+        self.get(bdu.q, bdu.rn)
+            .map_or(0, |packet| packet.standing.accepted_in())
+    }
+
+    /// Whether the packet of a BDU expires in the slot.
+    pub(crate) fn expires(&self, bdu: BduKey, slot: u32) -> bool
+        ensures { result ≡ rule.is_late slot (packet_in self.now (rule.place bdu)).standing }
+    {
+        self.get(bdu.q, bdu.rn)
+            .is_some_and(|packet| packet.standing.is_late(slot))
+    }
+
+    /// The BDU to send: of those that wait the one of the highest Q, then of the earliest accept, then of the smallest RN and
+    /// BSN.
+    pub(crate) fn best(&self) -> Option<BduKey>
+        ensures { (S : rule.Sending) → S.packets ≡ self.now → Chosen S result }
+    {
+        (0..128)
+            .map(bdu_at)
+            .filter(|bdu| self.waits(*bdu))
+            .min_by_key(|bdu| (Reverse(bdu.q), self.since(*bdu), bdu.rn, bdu.bsn))
+    }
+
+    /// The header of a BDU.
+    pub(crate) fn header(&self, bdu: BduKey) -> BduHeader
+        ensures header { result ≡ record {
+          rn = bdu.rn;
+          q = bdu.q;
+          more = nat_lt (bdu.bsn + 1) (rule.pieces (packet_in self.now (rule.place bdu)).octets);
+          bsn = bdu.bsn;
+        } }
+        ensures long { length (packet_in self.now (rule.place bdu)).octets ≤ 424 }
+    {
+        BduHeader {
+            rn: bdu.rn,
+            q: bdu.q,
+            more: self
+                .get(bdu.q, bdu.rn)
+                .is_some_and(|packet| packet.has_more(bdu.bsn)),
+            bsn: bdu.bsn,
+        }
+    }
+
+    /// The octets of a BDU, as a part of its packet; none where there is no such BDU.
+    pub(crate) fn part(&self, bdu: BduKey) -> &[u8]
+        ensures { result.now ≡ rule.piece (packet_in self.now (rule.place bdu)).octets bdu.bsn }
+    {
+        self.get(bdu.q, bdu.rn)
+            .map_or(&[], |packet| packet.part(bdu.bsn))
+    }
+
+    /// The BDU goes on; where there is no packet for it nothing happens.
+    pub(crate) fn go_on(&mut self, bdu: BduKey, to: Progress)
+        ensures { self.new ≡ rule.moved bdu to self.old }
+    {
+        // By its place: what `get_mut` leaves of the other packets is not known afterwards.
+        let p = place(bdu.q, bdu.rn);
+        if p < self.all.len() {
+            self.all[p].advance(bdu.bsn, to);
+        }
+    }
+
+    /// The packets whose reference numbers are held as asked.
+    pub(crate) fn held<F: Fn(Tenure) -> bool>(&self, asked: F) -> PacketSet
+        requires { F.IsAlwaysCallable asked }
+        ensures { (test : Standing → Bool) → ((t : Tenure) (r : Bool) → F.post asked t r → r ≡ test (standing_of t))
+            → result.marks ≡ map (λ o. test o.standing) self.now }
+    {
+        PacketSet {
+            marks: self.all.each_ref().map(|packet| asked(packet.standing)),
+        }
+    }
+
+    /// Which packets a report confirms.
+    pub(crate) fn confirmed(&self, report: &Hearing, window: &Window) -> PacketSet
+        ensures { result.marks ≡ map rule.is_whole (rule.credit (tells report.now) report.now.slot window.now self.now) }
+    {
+        let mut marks = [false; 16];
+        for (p, packet) in self.all.iter().enumerate() {
+            marks[p] = packet.is_whole_with(&report.credited(window, p, packet.bdus));
+        }
+        PacketSet { marks }
+    }
+
+    /// Moves the BDUs of all packets on by a report, and frees the reference numbers of the confirmed ones.
+    pub(crate) fn settle(&mut self, report: &Hearing, window: &Window, confirmed: PacketSet)
+        requires { confirmed.marks ≡ map rule.is_whole (rule.credit (tells report.now) report.now.slot window.now self.old) }
+        ensures { self.new ≡ map rule.closed (rule.credit (tells report.now) report.now.slot window.now self.old) }
+    {
+        for (p, packet) in self.all.iter_mut().enumerate() {
+            let bdus = report.credited(window, p, packet.bdus);
+            packet.settle(bdus, confirmed.marks[p]);
+        }
+    }
+
+    /// All packets grow older.
+    pub(crate) fn pass_all(&mut self, slot: u32)
+        ensures { self.new ≡ map (rule.older slot) self.old }
+    {
+        for packet in &mut self.all {
+            packet.pass(slot);
+        }
+    }
+}
+
+/// The BDU at a place of the row of all: by Q, then RN, then BSN.
+fn bdu_at(x: u8) -> BduKey
+    ensures { result ≡ nth x }
+{
+    BduKey {
+        q: x / 32,
+        rn: x / 8 % 4,
+        bsn: x % 8,
+    }
+}
