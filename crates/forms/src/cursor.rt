@@ -50,6 +50,7 @@ fn with_digit(number: u32, digit: u8) -> Option<u32>
 }
 
 /// The number that digits write, or, as an error, the place of the first digit with which it passes 4,294,967,295.
+// The error is the place itself: its one caller makes a column of it, and would only unwrap a type around it.
 fn value(digits: &[u8]) -> Result<u32, usize>
     requires { Digits digits.now }
     ensures { Value digits.now result }

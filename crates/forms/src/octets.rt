@@ -71,6 +71,7 @@ pub fn read_octets(heap: Global, text: &[u8]) -> Result<Vec<u8>, OctetsFault>
         return Ok(octets);
     }
     octets.push(octet_at(text, 0)?)?;
+    // By place and not by chunks: the error tells the place of the first misfit.
     for place in (2..text.len()).step_by(3) {
         if text[place] != b' ' {
             return Err(OctetsFault::Misfit { place });
@@ -99,6 +100,7 @@ impl fmt::Display for Octets<'_> {
     }
 }
 
+// For a caller that wants a text; one that prints takes `Octets`.
 /// The text of a list of octets.
 pub fn octets_text(heap: Global, octets: &[u8]) -> Result<String, AllocError>
     ensures { IfOk result (λ s. string_bytes s ≡ octets_text octets.now) }

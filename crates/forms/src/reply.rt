@@ -6,7 +6,7 @@ use frame::Refusal;
 use std::fmt;
 
 /// The answer to a line.
-// More forms will have answers of their own, which neither `Option` nor `Result` would name.
+// No `Result`: it is printed, and only a type of this crate can have a `Display` of its own.
 #[derive(Clone, Copy)]
 pub enum Reply {
     /// The clock moved.

@@ -9,7 +9,7 @@ use crate::read::read_form;
 use crate::reply::Reply;
 use frame::Refusal;
 
-/// The clock goes no further than this slot.
+/// The clock goes no further than this slot, the last one of the service. This crate does not stand on the rules, which have it too.
 const LAST_SLOT: u32 = 4_000_000_000;
 
 /// A session of linkrun.

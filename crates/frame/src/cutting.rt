@@ -1,6 +1,7 @@
 //! How a packet is cut into BDUs.
 ghost use Rattle.std.specs.Prelude.{◌<◌, ◌≤◌};
 
+// Q and RN one by one, as a header has them; the key of a packet is above this crate.
 /// What the cutting of a packet turns on: its priority, its reference number and its length, 1 to 424 octets.
 #[derive(Clone, Copy)]
 pub struct Cutting {

@@ -42,6 +42,7 @@ pub struct Uplink;
 #[derive(Clone, Copy)]
 pub struct Downlink;
 
+// The two impls are the table of what differs between the directions, which has to stand somewhere once for each.
 impl Direction for Uplink {
     type Number = UplinkNumber;
 

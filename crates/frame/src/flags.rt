@@ -9,6 +9,7 @@ pub struct Flags {
 }
 
 /// What a flag adds to the octet.
+// Tried as `u8::from(mark) * value` in the sum itself: what the sum is did not prove.
 fn worth(mark: bool, value: u8) -> u8
     ensures { result ≡ (if mark then value else 0) }
 {
@@ -29,6 +30,8 @@ impl From<[bool; 8]> for Flags {
 
 impl Flags {
     /// Which flags are set.
+    // A method and no `From`: `<[bool; 8]>::from(flags)` reads worse. Tried as a `map` over 1, 2, 4 and so on: that no divisor is 0 did
+    // not prove in the closure.
     pub fn marks(self) -> [bool; 8]
         ensures { result ≡ marks_of self.octet }
     {

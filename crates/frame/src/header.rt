@@ -28,13 +28,13 @@ impl From<u8> for BduHeader {
 
 impl BduHeader {
     /// The octet that stands for the header; none where a field is too large for it.
+    // An `Option` and no `TryFrom`: there is one reason, and an error type for it would say no more.
     pub fn octet(self) -> Option<u8>
         ensures { HeaderWritten self result }
     {
         if self.rn > 3 || self.q > 3 || self.bsn > 7 {
             return None;
         }
-        let more = if self.more { 8 } else { 0 };
-        Some(64 * self.rn + 16 * self.q + more + self.bsn)
+        Some(64 * self.rn + 16 * self.q + 8 * u8::from(self.more) + self.bsn)
     }
 }

@@ -12,7 +12,7 @@ pub use kind::{Kind, Way};
 pub use logon::LogOn;
 pub use number::{DownlinkNumber, FrameNumber, Number, UplinkNumber};
 pub use reader::{Frame, read};
-pub use sizes::{BDU_ROOM, FRAME_ROOM, PACKET_BDUS, PACKET_ROOM};
+pub use sizes::{BDU_ROOM, FRAME_ROOM, HALF_PACKETS, PACKET_BDUS, PACKET_ROOM};
 pub use writer::{write_data, write_report};
 
 mod bdu;

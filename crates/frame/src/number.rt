@@ -1,5 +1,5 @@
 //! The numbers of data frames, a type of its own for each direction.
-ghost use Rattle.std.specs.Prelude.{◌≡◌, ℕ, ◌+◌, ◌-◌, ◌%◌, ◌<◌};
+ghost use Rattle.std.specs.Prelude.{◌≡◌, ℕ, ◌%◌, ◌<◌};
 ghost use Rattle.frame.specs.Numbers.{advanced, distance as apart};
 ghost use Rattle.std.proofs.Common.{rules};
 
@@ -31,6 +31,10 @@ pub trait Number: Copy {
 
     ghost small: { (n : Self) → value n < 256 };
 }
+
+// A struct for each direction, as the link wants it: an uplink number is never taken for a downlink one. What is left twice is
+// the two lines by which each is an octet; `From` would not do for these: a bound `From<u8>` tells nothing of the
+// trait's `value`.
 
 /// A number of an uplink data frame.
 #[derive(Clone, Copy)]

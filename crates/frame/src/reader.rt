@@ -1,5 +1,5 @@
 //! Reading a frame.
-ghost use Rattle.std.specs.Prelude.{◌≡◌, MatchOption, slice_index};
+ghost use Rattle.std.specs.Prelude.{◌≡◌, MatchOption};
 ghost use Rattle.frame.specs.Beginnings.{FirstWrong, OnePlace};
 ghost use Rattle.frame.specs.Directions.{kind_octet, way_of, octet_of, way_of_kind};
 ghost use Rattle.frame.specs.Frames.{kind_at, Read, Readable, Rewritten};
@@ -11,6 +11,7 @@ use crate::header::BduHeader;
 use crate::kind::Kind;
 use crate::logon::LogOn;
 use crate::number::{DownlinkNumber, FrameNumber, Number, UplinkNumber};
+use crate::sizes::FRAME_ROOM;
 
 /// What a frame says. The number tells the direction.
 #[derive(Clone, Copy)]
@@ -38,6 +39,7 @@ fn first_wrong(frame: &[u8], kind: Kind) -> Option<usize>
     let len = frame.len();
     let octet_at = |place: usize| frame.get(place).copied().unwrap_or(0);
     let aircraft = octet_at(1);
+    // As `LogOn::new` tests it: one function for both was tried, and the proof did not close here.
     if aircraft < 1 || aircraft > 254 {
         return Some(1);
     }
@@ -51,10 +53,14 @@ fn first_wrong(frame: &[u8], kind: Kind) -> Option<usize>
     if header.more && header.bsn == 7 {
         return Some(7);
     }
-    if len < 9 || (header.more && len < 61) {
+    if len < 9 || (header.more && len < FRAME_ROOM) {
         return Some(len);
     }
-    if len > 61 { Some(61) } else { None }
+    if len > FRAME_ROOM {
+        Some(FRAME_ROOM)
+    } else {
+        None
+    }
 }
 
 /// The number that a readable frame of a kind shows.

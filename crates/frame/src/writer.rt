@@ -48,6 +48,7 @@ pub fn write_data<D: Direction>(
     if buffer.len() < FRAME_ROOM {
         return Err(FrameFault::Buffer);
     }
+    // A header alone may hold any numbers, and keeps that; the one of a `Bdu` fits.
     let Some(header) = bdu.header.octet() else {
         unreachable()
     };

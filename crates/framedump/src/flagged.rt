@@ -23,6 +23,7 @@ impl fmt::Display for Flagged {
         let first = self.oldest.wrapping_add(1);
         for (step, mark) in marks.iter().enumerate() {
             if *mark {
+                // A place of eight fits.
                 write!(f, " {}", first.wrapping_add(step as u8))?;
             }
         }

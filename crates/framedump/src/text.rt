@@ -2,7 +2,6 @@
 ghost use Rattle.std.specs.Prelude.{◌≡◌, Some};
 ghost use Rattle.framedump.specs.Dumps.{way_word, header_text, frame_text, refusal_text, misfit_text};
 ghost use Rattle.frame.specs.Directions.{way_of, octet_of};
-ghost use Rattle.frame.specs.Reasons.{number_of};
 
 use crate::flagged::Flagged;
 use forms::Octets;
@@ -105,6 +104,7 @@ impl fmt::Display for NoOctets {
     ghost output = { λ text. Some (misfit_text text.place) };
 
     fn fmt<W: fmt::Write>(&self, f: &mut fmt::Formatter<W>) -> fmt::Result {
+        // Wider, since a place may be the last of `usize`.
         let column = self.place as u128 + 1;
         write!(f, "no list of octets: column {column}")
     }

@@ -1,11 +1,11 @@
 //! The worked examples of the rules, made with the calls of the halves.
 ghost use Rattle.std.specs.Prelude.{◌≡◌, false, [], ◌∷◌};
 ghost use Rattle.rules.specs.Receiving as rule;
-ghost use Rattle.half.specs.Examples.{Goes, only_eight, two_frames, sent_again, one_expiry, worked};
+ghost use Rattle.half.specs.Examples.{Goes, two_frames, sent_again, one_expiry, worked};
 
-use frame::{Bdu, BduHeader, Direction, Flags, Number};
+use frame::{Bdu, BduHeader, Direction, Flags, Number, PACKET_ROOM};
 use receiver::Receiver;
-use rules::Report;
+use rules::{PacketKey, Report};
 use sender::Sender;
 
 /// A data frame that went: its number, the octet of its BDU header, and how many octets its BDU has.
@@ -41,6 +41,7 @@ pub struct Examples {
     pub expiry: Expiry,
 }
 
+// The half, the count and the slot are the arguments of a send; each example has others.
 /// Sends what is to be sent next.
 fn go<D: Direction>(sender: &mut Sender<D>, count: u8, slot: u32) -> Option<Sent>
     ensures { Goes count slot sender.old result sender.new }
@@ -89,7 +90,7 @@ fn is_awaited<D: Direction>(number: u8) -> bool
     ensures { result ≡ rule.awaited rule.new number }
 {
     let mut receiver: Receiver<D> = Receiver::new();
-    let mut buffer = [0; 424];
+    let mut buffer = [0; PACKET_ROOM];
     receiver
         .take(D::Number::from_octet(number), short(), 10, &mut buffer)
         .is_ok()
@@ -100,7 +101,7 @@ fn go_round<D: Direction>() -> u8
     ensures { result ≡ 1 }
 {
     let mut receiver: Receiver<D> = Receiver::new();
-    let mut buffer = [0; 424];
+    let mut buffer = [0; PACKET_ROOM];
     for k in 0..255 {
         let _ = receiver.take(D::Number::from_octet(k), short(), 10, &mut buffer);
     }
@@ -134,8 +135,9 @@ fn expire<D: Direction>() -> Expiry
     let mut sender: Sender<D> = Sender::new();
     let _ = sender.accept(2, &[65], 100);
     let _ = go(&mut sender, 0, 100);
-    let early = sender.slot(173).contains(2, 0);
-    let late = sender.slot(174).contains(2, 0);
+    let packet = PacketKey { q: 2, rn: 0 };
+    let early = sender.slot(173).contains(packet);
+    let late = sender.slot(174).contains(packet);
     let _ = sender.slot(248);
     let first = sender.accept(2, &[65], 248).ok();
     let second = sender.accept(2, &[65], 248).ok();

@@ -4,7 +4,7 @@
 
 use frame::{Bdu, Number, PACKET_ROOM, Refusal, Uplink};
 use half::{HandUp, PacketSet, Receiver, Sender};
-use rules::EndFault;
+use rules::{EndFault, PacketKey};
 use std::io;
 
 /// The two halves of the uplink in a slot, and the buffer for packets that are handed up.
@@ -91,7 +91,8 @@ impl<'a> Trial<'a> {
 fn say_taken(rt: &HostRuntime, taken: Result<Option<HandUp>, EndFault>) -> io::Result<()> {
     match taken {
         Ok(None) => println!(rt; "  arrived: the BDU is held"),
-        Ok(Some(HandUp { q, rn, len })) => {
+        Ok(Some(HandUp { packet, len })) => {
+            let PacketKey { q, rn } = packet;
             println!(rt; "  arrived: packet Q {q} RN {rn} of {len} octets is handed up")
         }
         Err(fault) => say_refused(rt, fault),
@@ -108,9 +109,10 @@ fn say_refused(rt: &HostRuntime, fault: EndFault) -> io::Result<()> {
 fn say_packets(rt: &HostRuntime, what: &str, packets: PacketSet) -> io::Result<()> {
     let count = packets.len();
     print!(rt; "  {what}: {count}")?;
+    // Asked packet by packet: an iterator for sets would need more words than these two lines.
     for q in 0..4 {
         for rn in 0..4 {
-            if packets.contains(q, rn) {
+            if packets.contains(PacketKey { q, rn }) {
                 print!(rt; ", Q {q} RN {rn}")?;
             }
         }

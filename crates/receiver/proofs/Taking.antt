@@ -91,7 +91,7 @@ module _ (V : Receiving) (n : ℕ) (u : Bdu) (buffer : List ℕ) (b : Bool) (ps 
 
     -- nothing is handed up and the BDU is held, or a packet is handed up and the place is empty
     pub takes_is : (up : Option ℕ) (r : Option HandUp) → Whole (packet (place_of x₁)) buffer up after → Emptied up (place_of x₁) (place_of x₂)
-        → MatchOption up (r ≡ None) (λ len. r ≡ Some (record { q = u.q; rn = u.rn; len = len })) → Takes V n u now buffer (Ok r) V' after
+        → MatchOption up (r ≡ None) (λ len. r ≡ Some (record { packet = record { q = u.q; rn = u.rn }; len = len })) → Takes V n u now buffer (Ok r) V' after
     takes_is None r w e m =
         let z = whole_none (packet (place_of x₁)) buffer after w in
         rw m (rows_none, (brought None z.0 ∙ ap (λ W. (Answer.Held, W)) (ends (place_of x₁) e), z.1))

@@ -17,7 +17,7 @@ take_rows V n u room =
 abbrev pub TakenSo : Receiving → ℕ → Bdu → ℕ → List ℕ → Option HandUp → Receiving → List ℕ → Type 0
 TakenSo V n u now buffer None V' after = (bring V n u now ≡ (Answer.Held, V')) × (after ≡ buffer)
 TakenSo V n u now buffer (Some p) V' after =
-    (octets : List ℕ) × (bring V n u now ≡ (Answer.Packet p.q p.rn octets, V')) × (p.len ≡ length octets) × (after ≡ octets ++ drop p.len buffer)
+    (octets : List ℕ) × (bring V n u now ≡ (Answer.Packet p.packet.q p.packet.rn octets, V')) × (p.len ≡ length octets) × (after ≡ octets ++ drop p.len buffer)
 
 abbrev pub Takes : Receiving → ℕ → Bdu → ℕ → List ℕ → Result (Option HandUp) EndFault → Receiving → List ℕ → Type 0
 Takes V n u now buffer (Ok up) V' after = (refused_by (take_rows V n u (length buffer)) ≡ None) × TakenSo V n u now buffer up V' after

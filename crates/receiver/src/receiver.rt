@@ -7,8 +7,8 @@ ghost use Rattle.rules.specs.Receiving as rule;
 ghost use Rattle.std.specs.List.{range_with_len};
 
 use crate::place::Place;
-use frame::{Bdu, Direction, Flags, Number, PACKET_ROOM};
-use rules::{EndFault, Report, Shown, place};
+use frame::{Bdu, BduHeader, Direction, Flags, HALF_PACKETS, Number, PACKET_ROOM};
+use rules::{EndFault, PacketKey, Report, Shown};
 use std::array;
 use std::marker::Model;
 
@@ -18,7 +18,7 @@ use std::marker::Model;
 pub struct Receiver<D: Direction> {
     oldest: D::Number,
     flags: [bool; 8],
-    places: [Place; 16],
+    places: [Place; HALF_PACKETS],
 }
 
 // A contract sees a half as the rules do: R as a number, and of each place what is held.
@@ -35,11 +35,10 @@ impl<D: Direction> Model for Receiver<D> {
     ghost invariant = { λ half. length half.places ≡ 16 };
 }
 
-/// A packet that a BDU made whole: its Q, its RN and its length, at the front of the buffer.
+/// A packet that a BDU made whole: which it is, and its length, at the front of the buffer.
 #[derive(Clone, Copy)]
 pub struct HandUp {
-    pub q: u8,
-    pub rn: u8,
+    pub packet: PacketKey,
     pub len: usize,
 }
 
@@ -93,6 +92,7 @@ impl<D: Direction> Receiver<D> {
         }
         let n = self.in_front();
         self.flags = self.shifted(n + 1);
+        // At most eight fits.
         self.oldest = self.oldest.advance(n as u8 + 1);
     }
 
@@ -118,21 +118,16 @@ impl<D: Direction> Receiver<D> {
         if !self.awaits(number) {
             return Err(EndFault::Number);
         }
-        let header = bdu.header;
-        let at = place(header.q, header.rn);
+        let BduHeader { q, rn, .. } = bdu.header;
+        let packet = PacketKey { q, rn };
+        let at = packet.place();
         if self.places[at].contradicts(bdu) {
             return Err(EndFault::Contradiction);
         }
         self.receive(number);
         let place = &mut self.places[at];
         place.add(bdu, slot);
-        Ok(
-            place.hand_up(buffer).map(|len| HandUp {
-                q: header.q,
-                rn: header.rn,
-                len,
-            }),
-        )
+        Ok(place.hand_up(buffer).map(|len| HandUp { packet, len }))
     }
 
     /// The slot begins: places that were opened 75 slots ago or more are emptied.

@@ -12,3 +12,4 @@ pub mod Ends
 pub mod Examples
 pub mod Kept
 pub mod Octets
+pub mod Keys

@@ -4,7 +4,7 @@
 pub use constants::{frames_a_slot, hold, last_slot, lifetime, rest, return_age, window_size};
 pub use fault::EndFault;
 pub use report::{Report, Shown};
-pub use window::{BduKey, Mark, Progress, Standing, has_passed, place};
+pub use window::{BduKey, Mark, PacketKey, Progress, Standing, has_passed};
 
 mod constants;
 mod fault;

@@ -1,14 +1,42 @@
-//! What a sending half knows of a number and of a packet: small enums that its rules and its code share.
-ghost use Rattle.std.specs.Prelude.{◌≡◌, ◌+◌, ◌*◌, nat_le};
+//! Packets and BDUs by their keys, what a sending half knows of a number and of a packet, and spans of slots.
+ghost use Rattle.std.specs.Prelude.{◌≡◌, ◌+◌, nat_le};
+ghost use Rattle.rules.specs.Keys.{place};
 
 use frame::BduHeader;
 
+/// Which packet: the one with reference number `rn` under priority `q`.
+#[derive(Clone, Copy)]
+pub struct PacketKey {
+    pub q: u8,
+    pub rn: u8,
+}
+
+impl PacketKey {
+    /// Its place, where the packets of a half are in one row.
+    pub fn place(self) -> usize
+        ensures { result ≡ place self }
+    {
+        4 * usize::from(self.q) + usize::from(self.rn)
+    }
+}
+
+// Q and RN one by one: the laws of the rules name them so.
 /// Which BDU: of the packet with reference number `rn` under priority `q`, the one of number `bsn`.
 #[derive(Clone, Copy)]
 pub struct BduKey {
     pub q: u8,
     pub rn: u8,
     pub bsn: u8,
+}
+
+impl BduKey {
+    /// The packet that the BDU is of.
+    pub fn packet(self) -> PacketKey
+        ensures { result ≡ record { q = self.q; rn = self.rn } }
+    {
+        let BduKey { q, rn, .. } = self;
+        PacketKey { q, rn }
+    }
 }
 
 impl From<BduHeader> for BduKey {
@@ -41,19 +69,13 @@ pub enum Progress {
     Acknowledged,
 }
 
+// A word of the rules alone: the sending half keeps the slot of the accept, since one that is 149 later may not fit 32 bits.
 /// How a reference number stands: free, given to a packet that was accepted in a slot, or resting until a slot.
 #[derive(Clone, Copy)]
 pub enum Standing {
     Free,
     Pending { since: u32 },
     Resting { until: u32 },
-}
-
-/// The place of the packet with reference number `rn` under priority `q`, where the packets of a half are in one row.
-pub fn place(q: u8, rn: u8) -> usize
-    ensures { result ≡ 4 * q + rn }
-{
-    4 * usize::from(q) + usize::from(rn)
 }
 
 /// Whether a span of slots that began in the slot `since` is over in a slot.

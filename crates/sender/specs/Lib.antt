@@ -3,3 +3,4 @@ pub mod Standings
 pub mod Packets
 pub mod Hearings
 pub mod Senders
+pub mod Windows

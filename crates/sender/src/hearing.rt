@@ -1,18 +1,21 @@
 //! What a report makes of the numbers and packets of a sending half.
-ghost use Rattle.std.specs.Prelude.{◌≡◌, not, ◌&&◌, slice_index_or};
+ghost use Rattle.std.specs.Prelude.{◌≡◌, not, ◌&&◌};
 ghost use Rattle.sender.specs.Hearings.{tells as told_by, step, credit_of, verdict};
 ghost use Rattle.sender.specs.Senders.{refused_of, Outcome};
+ghost use Rattle.sender.specs.Windows.{mark_in};
 ghost use Rattle.rules.specs.Sending.{was_sent, is_old};
 
 use crate::mark::{Verdict, is_old, judge, was_sent};
-use crate::packet::go_on;
 use crate::packets::Packets;
+use crate::row::put;
 use crate::set::PacketSet;
 use crate::window::{WINDOW, Window};
-use rules::{BduKey, EndFault, Mark, Progress, place as place_of};
+use frame::PACKET_BDUS;
+use rules::{BduKey, EndFault, Mark, Progress};
 
 /// A report as it bears on a window: how far its R lies ahead of the oldest number there, its flags, and the slot in which
 /// it came.
+// It does not hold the window: the window is asked by it first, and changed by it then.
 #[derive(Clone, Copy)]
 pub(crate) struct Hearing {
     pub gap: u8,
@@ -38,7 +41,7 @@ impl Hearing {
 
     /// Whether the report acknowledges a number that is not out.
     fn is_astray(&self, window: &Window, k: usize) -> bool
-        ensures { result ≡ told_by self.now k && not (was_sent (slice_index_or window.now k Mark.Unused)) }
+        ensures { result ≡ told_by self.now k && not (was_sent (mark_in window.now k)) }
     {
         self.tells(k) && !was_sent(window.mark(k))
     }
@@ -55,8 +58,8 @@ impl Hearing {
         &self,
         window: &Window,
         place: usize,
-        bdus: [Progress; 8],
-    ) -> [Progress; 8]
+        bdus: [Progress; PACKET_BDUS],
+    ) -> [Progress; PACKET_BDUS]
         ensures { result ≡ credit_of place (told_by self.now) self.now.slot window.now bdus }
     {
         let mut after = bdus;
@@ -78,12 +81,12 @@ impl Hearing {
 }
 
 /// The BDU that moves on does, if it is one of the packet at a place.
-fn apply(bdus: &mut [Progress; 8], place: usize, moved: Option<(BduKey, Progress)>)
+fn apply(bdus: &mut [Progress; PACKET_BDUS], place: usize, moved: Option<(BduKey, Progress)>)
     ensures { bdus.new ≡ step place moved bdus.old }
 {
     if let Some((bdu, to)) = moved
-        && place_of(bdu.q, bdu.rn) == place
+        && bdu.packet().place() == place
     {
-        go_on(bdus, bdu.bsn, to);
+        put(bdus, usize::from(bdu.bsn), to);
     }
 }

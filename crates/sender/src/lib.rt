@@ -11,6 +11,7 @@ mod mark;
 mod outgoing;
 mod packet;
 mod packets;
+mod row;
 mod sender;
 mod set;
 mod standing;

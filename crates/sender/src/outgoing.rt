@@ -1,12 +1,12 @@
 //! What a sending half asks of a packet, and makes of it.
-ghost use Rattle.std.specs.Prelude.{◌≡◌, ◌+◌, ◌≤◌, length, replicate, if◌then◌else◌, nat_lt, slice_set};
+ghost use Rattle.std.specs.Prelude.{◌≡◌, ◌+◌, ◌≤◌, length, replicate, nat_lt, slice_set};
 ghost use Rattle.frame.specs.Packets.{part_at};
 ghost use Rattle.rules.specs.declared.window.Standing.{Standing};
-ghost use Rattle.sender.specs.Standings.{standing_of};
 ghost use Rattle.sender.specs.Packets.{packet_of, octets_of, with_bdus, waits_in};
 ghost use Rattle.rules.specs.Sending as rule;
 
-use crate::packet::{Packet, go_on};
+use crate::packet::Packet;
+use crate::row::put;
 use crate::standing::Tenure;
 use arrayvec::ArrayVec;
 use frame::{BDU_ROOM, PACKET_BDUS, part};
@@ -74,7 +74,7 @@ impl Packet {
     pub(crate) fn advance(&mut self, bsn: u8, to: Progress)
         ensures { packet_of self.new ≡ with_bdus (slice_set self.old.bdus bsn to) (packet_of self.old) }
     {
-        go_on(&mut self.bdus, bsn, to);
+        put(&mut self.bdus, usize::from(bsn), to);
     }
 
     /// Whether it is pending and, with its BDUs this far, all of them are acknowledged.
@@ -89,17 +89,13 @@ impl Packet {
     }
 
     /// After a report: its BDUs are this far, and its reference number is free if it is confirmed.
-    pub(crate) fn settle(&mut self, bdus: [Progress; PACKET_BDUS], confirmed: bool)
-        ensures { packet_of self.new ≡ record {
-          standing = (if confirmed then Standing.Free else standing_of self.old.standing);
-          octets = octets_of self.old;
-          bdus = bdus;
-        } }
+    pub(crate) fn settle(&mut self, bdus: [Progress; PACKET_BDUS])
+        ensures { packet_of self.new ≡ rule.closed (with_bdus bdus (packet_of self.old)) }
     {
-        self.bdus = bdus;
-        if confirmed {
+        if self.is_whole_with(&bdus) {
             self.standing = Tenure::Free;
         }
+        self.bdus = bdus;
     }
 
     /// The slot begins.

@@ -1,5 +1,5 @@
 //! A packet of a sending half.
-ghost use Rattle.std.specs.Prelude.{◌≡◌, ◌≤◌, slice_set};
+ghost use Rattle.std.specs.Prelude.{◌≤◌};
 ghost use Rattle.arrayvec.specs.ArrayVec.{array_vec_len};
 
 use crate::standing::Tenure;
@@ -14,15 +14,4 @@ pub(crate) struct Packet {
     pub octets: ArrayVec<u8, PACKET_ROOM>,
     pub bdus: [Progress; PACKET_BDUS],
     ghost fits: { array_vec_len octets ≤ 424 },
-}
-
-/// The BDU goes on; one behind the eighth does not.
-pub(crate) fn go_on(bdus: &mut [Progress; PACKET_BDUS], bsn: u8, to: Progress)
-    ensures { bdus.new ≡ slice_set bdus.old bsn to }
-{
-    // By its number: what `get_mut` leaves of the other BDUs is not known afterwards.
-    let n = usize::from(bsn);
-    if n < bdus.len() {
-        bdus[n] = to;
-    }
 }

@@ -1,5 +1,6 @@
 //! The packets of a sending half, and which BDU of them goes next.
-ghost use Rattle.std.specs.Prelude.{◌≡◌, ◌+◌, ◌*◌, ◌<◌, ◌≤◌, Bool, MatchOption, map, length, replicate, nat_lt, slice_set};
+ghost use Rattle.std.specs.Prelude.{◌≡◌, ◌+◌, ◌<◌, ◌≤◌, Bool, MatchOption, map, length, replicate, nat_lt, slice_set};
+ghost use Rattle.rules.specs.Keys.{place};
 ghost use Rattle.rules.specs.Choice.{nth, waiting, since, Chosen};
 ghost use Rattle.rules.specs.Sending as rule;
 ghost use Rattle.rules.specs.declared.window.Standing.{Standing};
@@ -12,8 +13,8 @@ use crate::packet::Packet;
 use crate::set::PacketSet;
 use crate::standing::Tenure;
 use crate::window::Window;
-use frame::BduHeader;
-use rules::{BduKey, Progress, place};
+use frame::{BduHeader, HALF_PACKETS};
+use rules::{BduKey, PacketKey, Progress};
 use std::array;
 use std::cmp::Reverse;
 use std::marker::Model;
@@ -21,7 +22,7 @@ use std::marker::Model;
 /// The packets of a sending half, each at the place of its priority and reference number.
 #[derive(Drop)]
 pub(crate) struct Packets {
-    all: [Packet; 16],
+    all: [Packet; HALF_PACKETS],
 }
 
 impl Model for Packets {
@@ -47,42 +48,41 @@ impl Packets {
         }
     }
 
-    /// The packet of a priority and a reference number.
-    fn get(&self, q: u8, rn: u8) -> Option<&Packet>
+    /// The packet of a key.
+    fn get(&self, key: PacketKey) -> Option<&Packet>
         ensures { MatchOption result
-            (packet_in self.now (4 * q + rn) ≡ rule.blank)
-            (λ p. packet_of p.now ≡ packet_in self.now (4 * q + rn)) }
+            (packet_in self.now (place key) ≡ rule.blank)
+            (λ p. packet_of p.now ≡ packet_in self.now (place key)) }
     {
-        self.all.get(place(q, rn))
+        self.all.get(key.place())
     }
 
     /// Whether no packet holds a reference number of a priority.
-    pub(crate) fn is_free(&self, q: u8, rn: u8) -> bool
-        ensures { result ≡ rule.is_free (packet_in self.now (4 * q + rn)).standing }
+    pub(crate) fn is_free(&self, key: PacketKey) -> bool
+        ensures { result ≡ rule.is_free (packet_in self.now (place key)).standing }
     {
-        self.get(q, rn)
-            .is_none_or(|packet| packet.standing.is_free())
+        self.get(key).is_none_or(|packet| packet.standing.is_free())
     }
 
     /// Takes a packet under a priority and a reference number in a slot.
-    pub(crate) fn fill(&mut self, q: u8, rn: u8, octets: &[u8], slot: u32)
-        requires priority { q < 4 }
-        requires reference { rn < 4 }
+    pub(crate) fn fill(&mut self, key: PacketKey, octets: &[u8], slot: u32)
+        requires priority { key.q < 4 }
+        requires reference { key.rn < 4 }
         requires fits { length octets.now ≤ 424 }
-        ensures { self.new ≡ slice_set self.old (4 * q + rn) (record {
+        ensures { self.new ≡ slice_set self.old (place key) (record {
           standing = Standing.Pending slot;
           octets = octets.now;
           bdus = replicate 8 Progress.Waiting;
         }) }
     {
-        self.all[place(q, rn)].fill(octets, slot);
+        self.all[key.place()].fill(octets, slot);
     }
 
     /// Whether a BDU waits.
     fn waits(&self, bdu: BduKey) -> bool
         ensures { result ≡ waiting self.now bdu }
     {
-        self.get(bdu.q, bdu.rn)
+        self.get(bdu.packet())
             .is_some_and(|packet| packet.has_waiting(bdu.bsn))
     }
 
@@ -90,7 +90,7 @@ impl Packets {
     fn since(&self, bdu: BduKey) -> u32
         ensures { result ≡ since self.now bdu }
     {
-        self.get(bdu.q, bdu.rn)
+        self.get(bdu.packet())
             .map_or(0, |packet| packet.standing.accepted_in())
     }
 
@@ -98,7 +98,7 @@ impl Packets {
     pub(crate) fn expires(&self, bdu: BduKey, slot: u32) -> bool
         ensures { result ≡ rule.is_late slot (packet_in self.now (rule.place bdu)).standing }
     {
-        self.get(bdu.q, bdu.rn)
+        self.get(bdu.packet())
             .is_some_and(|packet| packet.standing.is_late(slot))
     }
 
@@ -114,6 +114,7 @@ impl Packets {
     }
 
     /// The header of a BDU.
+    // `long` is what the capacity of the vector says; a caller sees only its octets.
     pub(crate) fn header(&self, bdu: BduKey) -> BduHeader
         ensures header { result ≡ record {
           rn = bdu.rn;
@@ -127,7 +128,7 @@ impl Packets {
             rn: bdu.rn,
             q: bdu.q,
             more: self
-                .get(bdu.q, bdu.rn)
+                .get(bdu.packet())
                 .is_some_and(|packet| packet.has_more(bdu.bsn)),
             bsn: bdu.bsn,
         }
@@ -137,7 +138,7 @@ impl Packets {
     pub(crate) fn part(&self, bdu: BduKey) -> &[u8]
         ensures { result.now ≡ rule.piece (packet_in self.now (rule.place bdu)).octets bdu.bsn }
     {
-        self.get(bdu.q, bdu.rn)
+        self.get(bdu.packet())
             .map_or(&[], |packet| packet.part(bdu.bsn))
     }
 
@@ -146,7 +147,7 @@ impl Packets {
         ensures { self.new ≡ rule.moved bdu to self.old }
     {
         // By its place: what `get_mut` leaves of the other packets is not known afterwards.
-        let p = place(bdu.q, bdu.rn);
+        let p = bdu.packet().place();
         if p < self.all.len() {
             self.all[p].advance(bdu.bsn, to);
         }
@@ -167,21 +168,20 @@ impl Packets {
     pub(crate) fn confirmed(&self, report: &Hearing, window: &Window) -> PacketSet
         ensures { result.marks ≡ map rule.is_whole (rule.credit (tells report.now) report.now.slot window.now self.now) }
     {
-        let mut marks = [false; 16];
+        // A loop: tried with `from_fn`, and the proof did not close, since it did not know there how many packets the model has.
+        let mut marks = [false; HALF_PACKETS];
         for (p, packet) in self.all.iter().enumerate() {
             marks[p] = packet.is_whole_with(&report.credited(window, p, packet.bdus));
         }
         PacketSet { marks }
     }
 
-    /// Moves the BDUs of all packets on by a report, and frees the reference numbers of the confirmed ones.
-    pub(crate) fn settle(&mut self, report: &Hearing, window: &Window, confirmed: PacketSet)
-        requires { confirmed.marks ≡ map rule.is_whole (rule.credit (tells report.now) report.now.slot window.now self.old) }
+    /// Moves the BDUs of all packets on by a report, and frees the reference numbers of those that it confirms.
+    pub(crate) fn settle(&mut self, report: &Hearing, window: &Window)
         ensures { self.new ≡ map rule.closed (rule.credit (tells report.now) report.now.slot window.now self.old) }
     {
         for (p, packet) in self.all.iter_mut().enumerate() {
-            let bdus = report.credited(window, p, packet.bdus);
-            packet.settle(bdus, confirmed.marks[p]);
+            packet.settle(report.credited(window, p, packet.bdus));
         }
     }
 

@@ -1,5 +1,5 @@
 //! The sending half.
-ghost use Rattle.std.specs.Prelude.{◌≡◌, ◌+◌, ◌*◌, ◌<◌, ◌≤◌, MatchOption, map, length};
+ghost use Rattle.std.specs.Prelude.{◌≡◌, ◌<◌, MatchOption};
 ghost use Rattle.rules.specs.Kept.{Kept};
 ghost use Rattle.sender.specs.Senders.{payload_of, sent_by, flagged, hearing_of, Accepts, Chooses, Sendable, Foretells, Hears, ShowsMarks};
 ghost use Rattle.sender.specs.Sets.{places_in};
@@ -12,8 +12,8 @@ use crate::hearing::Hearing;
 use crate::packets::Packets;
 use crate::set::PacketSet;
 use crate::window::Window;
-use frame::{BduHeader, Direction, Flags, Number, PACKET_ROOM};
-use rules::{BduKey, EndFault, Mark, Progress, Report, Shown, frames_a_slot};
+use frame::{BduHeader, Direction, Number, PACKET_ROOM};
+use rules::{BduKey, EndFault, Mark, PacketKey, Progress, Report, Shown, frames_a_slot};
 use std::marker::Model;
 
 /// The sending half of a direction: A, the oldest number not acknowledged, the window of A to A+8, the packets, that of Q
@@ -23,6 +23,7 @@ pub struct Sender<D: Direction> {
     oldest: D::Number,
     window: Window,
     packets: Packets,
+    // By Q, beside packets by Q and RN: the rules see them so, and every slot call goes over all packets in one row.
     last: [u8; 4],
 }
 
@@ -64,11 +65,11 @@ impl<D: Direction> Sender<D> {
     {
         (0..4)
             .map(|k| self.rn_after(q, k))
-            .find(|rn| self.packets.is_free(q, *rn))
+            .find(|rn| self.packets.is_free(PacketKey { q, rn: *rn }))
     }
 
-    /// Accepts a packet under a priority in a slot, and answers its reference number. It is refused with 2 if it has no or over
-    /// 424 octets or the priority is above 3, and with 9 if no reference number is free.
+    /// Accepts a packet under a priority in a slot, and answers its reference number. It is refused as `Packet` if it has
+    /// no or over 424 octets or the priority is above 3, and as `NoReference` if no reference number is free.
     pub fn accept(&mut self, q: u8, octets: &[u8], slot: u32) -> Result<u8, EndFault>
         ensures rule { Accepts q octets.now slot
             self.old result self.new }
@@ -78,7 +79,7 @@ impl<D: Direction> Sender<D> {
             return Err(EndFault::Packet);
         }
         let rn = self.free_rn(q).ok_or(EndFault::NoReference)?;
-        self.packets.fill(q, rn, octets, slot);
+        self.packets.fill(PacketKey { q, rn }, octets, slot);
         self.last[usize::from(q)] = rn;
         Ok(rn)
     }
@@ -99,10 +100,12 @@ impl<D: Direction> Sender<D> {
         if count >= frames_a_slot() {
             return Err(Pause::Full);
         }
+        // Not `ok_or(..)?`: tried, and what is answered then did not prove.
         let Some(entry) = self.window.first_open() else {
             return Err(Pause::Shut);
         };
         Ok(ToSend {
+            // A place of nine fits.
             number: self.oldest.advance(entry as u8),
             header: self.packets.header(bdu),
             entry,
@@ -130,25 +133,24 @@ impl<D: Direction> Sender<D> {
     }
 
     /// A report as it bears on the window.
-    fn hearing(&self, oldest: D::Number, flags: Flags, slot: u32) -> Hearing
-        ensures { result ≡ hearing_of (D.Number.Number.value oldest) flags.octet slot self.now }
+    fn hearing(&self, report: Report<D::Number>, slot: u32) -> Hearing
+        ensures { result ≡ hearing_of (D.Number.Number.value report.oldest) report.flags.octet slot self.now }
     {
         Hearing {
-            gap: self.oldest.distance(oldest),
-            flags: flags.marks(),
+            gap: self.oldest.distance(report.oldest),
+            flags: report.flags.marks(),
             slot,
         }
     }
 
-    /// Which packets a report in a slot would confirm; nothing changes. It is refused with 7 if it acknowledges a number that
-    /// is unused, returned or outside the window.
+    /// Which packets a report in a slot would confirm; nothing changes. It is refused as `Number` if it acknowledges a
+    /// number that is unused, returned or outside the window.
     pub fn foretell(&self, report: Report<D::Number>, slot: u32) -> Result<PacketSet, EndFault>
         ensures { Foretells (D.Number.Number.value report.oldest) (flagged report.flags.octet) slot
             self.now result }
     {
-        let Report { oldest, flags } = report;
-        self.hearing(oldest, flags, slot)
-            .outcome(&self.window, &self.packets)
+        let told = self.hearing(report, slot);
+        told.outcome(&self.window, &self.packets)
     }
 
     /// Takes a report in a slot, and answers which packets it confirms: exactly what was foretold of it. A refused one changes
@@ -160,12 +162,13 @@ impl<D: Direction> Sender<D> {
             self.old result self.new }
         ensures kept { Kept result self.old self.new }
     {
-        let hearing = self.hearing(report.oldest, report.flags, slot);
+        let hearing = self.hearing(report, slot);
         let confirmed = hearing.outcome(&self.window, &self.packets)?;
-        self.packets.settle(&hearing, &self.window, confirmed);
+        self.packets.settle(&hearing, &self.window);
         self.window.judge(&hearing);
         let by = self.window.lead();
         self.window.shift(by);
+        // At most nine fits.
         self.oldest = self.oldest.advance(by as u8);
         Ok(confirmed)
     }

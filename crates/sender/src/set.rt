@@ -2,20 +2,21 @@
 ghost use Rattle.std.specs.Prelude.{◌≡◌, length};
 ghost use Rattle.sender.specs.Sets.{packets_in, Contains};
 
-use rules::place;
+use frame::HALF_PACKETS;
+use rules::PacketKey;
 
 /// Packets of a sending half, by priority and reference number.
 #[derive(Clone, Copy)]
 pub struct PacketSet {
-    pub(crate) marks: [bool; 16],
+    pub(crate) marks: [bool; HALF_PACKETS],
 }
 
 impl PacketSet {
-    /// Whether the packet of a priority and a reference number is in the set.
-    pub fn contains(self, q: u8, rn: u8) -> bool
-        ensures { Contains (packets_in self) (q, rn) result }
+    /// Whether a packet is in the set.
+    pub fn contains(self, key: PacketKey) -> bool
+        ensures { Contains (packets_in self) (key.q, key.rn) result }
     {
-        rn < 4 && self.marks.get(place(q, rn)).copied().unwrap_or(false)
+        key.rn < 4 && self.marks.get(key.place()).copied().unwrap_or(false)
     }
 
     /// How many packets are in the set.

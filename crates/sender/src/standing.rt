@@ -50,6 +50,7 @@ impl Tenure {
     }
 
     /// The slot of a pending packet's accept.
+    // 0 for another and no `Option`: the rules have it so, and only packets with a BDU that waits are asked.
     pub(crate) fn accepted_in(self) -> u32
         ensures { result ≡ since_of (standing_of self) }
     {

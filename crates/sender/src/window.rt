@@ -1,18 +1,20 @@
 //! The window of a sending half: the oldest number that is not acknowledged, and the eight behind it.
-ghost use Rattle.std.specs.Prelude.{◌≡◌, ◌+◌, ◌<◌, ◌≤◌, ◌++◌, MatchOption, drop, map, replicate, slice_index_or, slice_set};
+ghost use Rattle.std.specs.Prelude.{◌≡◌, ◌+◌, ◌<◌, ◌≤◌, ◌++◌, MatchOption, drop, map, replicate, slice_set};
 ghost use Rattle.std.specs.List.{range_with_len};
 ghost use Rattle.rules.specs.Constants.{window_size};
+ghost use Rattle.sender.specs.Windows.{mark_in};
 ghost use Rattle.rules.specs.Sending as rule;
 ghost use Rattle.sender.specs.Hearings.{tells};
 
 use crate::hearing::Hearing;
 use crate::mark::{is_acknowledged, is_open};
 use crate::packets::Packets;
+use crate::row::put;
 use rules::Mark;
 use std::array::from_fn;
 use std::marker::Model;
 
-/// The numbers of a window.
+/// The numbers of a window, as `window_size` of the rules says: an array's length is a constant.
 pub(crate) const WINDOW: usize = 9;
 
 /// The marks of the window's numbers, the oldest first. Contracts see it as the list of them.
@@ -52,7 +54,7 @@ impl Window {
 
     /// The mark of the number at a place; behind the window there are only unused ones.
     pub(crate) fn mark(&self, k: usize) -> Mark
-        ensures { result ≡ slice_index_or self.now k Mark.Unused }
+        ensures { result ≡ mark_in self.now k }
     {
         self.marks.get(k).copied().unwrap_or(Mark::Unused)
     }
@@ -61,14 +63,12 @@ impl Window {
     pub(crate) fn set(&mut self, k: usize, mark: Mark)
         ensures { self.new ≡ slice_set self.old k mark }
     {
-        if k < self.marks.len() {
-            self.marks[k] = mark;
-        }
+        put(&mut self.marks, k, mark);
     }
 
     /// The place of the first number under which a BDU can be sent.
     pub(crate) fn first_open(&self) -> Option<usize>
-        ensures { let opening = rule.first window_size (λ k. rule.is_open (slice_index_or self.now k Mark.Unused)) in
+        ensures { let opening = rule.first window_size (λ k. rule.is_open (mark_in self.now k)) in
             MatchOption result (opening ≡ window_size) (λ k. (k < window_size) × (k ≡ opening)) }
     {
         self.marks.iter().position(|mark| is_open(*mark))
@@ -90,12 +90,13 @@ impl Window {
         requires { by ≤ window_size }
         ensures { self.new ≡ drop by self.old ++ replicate by Mark.Unused }
     {
+        // As the receiving half moves its flags on: both are these calls of the library, and one function for them would be no shorter.
         self.marks = from_fn(|k| self.mark(by + k));
     }
 
     /// Which of the eight numbers behind the oldest are acknowledged.
     pub(crate) fn acknowledged(&self) -> [bool; 8]
-        ensures { result ≡ map (λ i. rule.is_acknowledged (slice_index_or self.now (1 + i) Mark.Unused)) (range_with_len 0 8) }
+        ensures { result ≡ map (λ i. rule.is_acknowledged (mark_in self.now (1 + i))) (range_with_len 0 8) }
     {
         from_fn(|i| is_acknowledged(self.mark(1 + i)))
     }
