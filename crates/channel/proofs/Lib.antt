@@ -1,0 +1,4 @@
+pub mod Held
+pub mod Keeping
+pub mod Rings
+pub mod Wiring

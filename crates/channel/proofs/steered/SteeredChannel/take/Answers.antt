@@ -1,0 +1,9 @@
+use Rattle.std.proofs.Common.{rules}
+use Rattle.channel.proofs.Keeping.{takes_is}
+use Rattle.channel.proofs.steered.SteeredChannel.take.Goals as goal
+
+pub returns-in-ToAircraft-clause-channel : goal.returns-in-ToAircraft-clause-channel
+returns-in-ToAircraft-clause-channel c = takes_is c.args.self.now _ c.args.lane c.args.buffer.now _ _ (search rules) (search rules) (search rules) (search rules)
+
+pub returns-in-ToGround-clause-channel : goal.returns-in-ToGround-clause-channel
+returns-in-ToGround-clause-channel c = takes_is c.args.self.now _ c.args.lane c.args.buffer.now _ _ (search rules) (search rules) (search rules) (search rules)
