@@ -1,11 +1,11 @@
 -- How the frames of a wire lie on its lanes, and that it keeps to the meaning of a channel.
-use Rattle.std.proofs.Common.{◌≡◌, ℕ, ◌+◌, ◌≤◌, ◌⊎◌, false, nat_lt, List, [], ◌∷◌, ◌++◌, map, drop, Some, None, Option, MatchOption, refl, sym, ap, subst, inl, inr, ⊎_elim, arith, Bor}
+use Rattle.std.proofs.Common.{◌≡◌, ℕ, ◌≤◌, ◌⊎◌, false, nat_lt, List, [], ◌∷◌, ◌++◌, map, drop, Some, None, Option, MatchOption, refl, sym, ap, subst, inl, inr, ⊎_elim, arith, Bor}
 use Rattle.std.specs.Option.{option_copied}
 use Rattle.std.proofs.lemmas.Bool.{cond_both, ltb-false}
 use Rattle.rules.specs.Members.{Among}
 use Rattle.channel.specs.Channels.{Underway, OnlyOf, Moved, Added, bad_slot, bad_frame}
 use Rattle.channel.specs.WaitingLines.{Line, oldest, is_full, pushed}
-use Rattle.channel.specs.Wires.{WireState, clock_of, carried, delay, since, underway_of, seen, without_older, cleared, new, at_slot, after_put, after_take, InOrder, InTime}
+use Rattle.channel.specs.Wires.{WireState, clock_of, carried, since, underway_of, seen, without_older, cleared, at_slot, after_put, after_take, InOrder, InTime}
 use Rattle.channel.specs.declared.channel.Lane.{Lane}
 use Rattle.channel.specs.declared.channel.Lane.TheVariants.{ToAircraft, ToGround}
 use Rattle.channel.specs.declared.wire.Entry.{Entry}
@@ -74,15 +74,7 @@ only_pushed line f x =
     cond_both (is_full line) line (record { waiting = line.waiting ++ f ∷ []; room = line.room }) (λ l. Among x l.waiting → (x ≡ f) ⊎ Among x line.waiting)
     (λ _ h. inr h) (λ _. only_behind line.waiting f x)
 
-only_popped : (fs : List Underway) (x : Underway) → Among x (drop 1 fs) → Among x fs
-only_popped [] x h = h
-only_popped (f ∷ fs) x h = inr h
-
 -- ## the wire stays in time
-
-pub in_time_new : (a g : ℕ) → InTime (new a g)
-in_time_new a g ToAircraft = tt
-in_time_new a g ToGround = tt
 
 in_time_slot : (wire : WireState) (slot : ℕ) → wire.clock ≤ slot → InTime wire → InTime (at_slot slot wire)
 in_time_slot wire slot l h ToAircraft = order_cleared wire.to_aircraft.waiting (since slot ToAircraft) (since wire.clock ToAircraft) wire.clock slot l (h ToAircraft)
@@ -131,16 +123,3 @@ in_time_puts wire after lane octets h e = subst InTime (sym e) (in_time_put wire
 
 pub in_time_takes : (wire after : WireState) (lane : Lane) → InTime wire → after ≡ after_take lane wire → InTime after
 in_time_takes wire after lane h e = subst InTime (sym e) (in_time_take wire lane h)
-
--- ## no frame underway is too old
-
--- every frame lies between the two slots
-slot_between : (fs : List Underway) (low high : ℕ) (x : Underway) → InOrder low high fs → Among x fs → (low ≤ x.1) × (x.1 ≤ high)
-slot_between [] low high x h = λ a. absurd a
-slot_between (f ∷ fs) low high x h =
-    ⊎_elim
-    (λ e. subst (λ y. (low ≤ y.1) × (y.1 ≤ high)) (sym e) (h.0, h.1))
-    (λ m. let r = slot_between fs f.1 high x h.2 m in (omega arith, r.1))
-
-pub young_underway : (wire : WireState) (lane : Lane) (x : Underway) → InTime wire → Among x (carried wire lane) → wire.clock ≤ x.1 + delay lane
-young_underway wire lane x h a = omega (arith, (slot_between (carried wire lane) (since wire.clock lane) wire.clock x (h lane) a).0)

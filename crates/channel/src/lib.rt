@@ -15,6 +15,7 @@ mod fade;
 mod fault;
 #[cfg(test)]
 mod gate_tests;
+mod giving;
 mod line;
 mod places;
 mod steered;

@@ -1,8 +1,9 @@
 //! The places of one lane of the steered line.
-ghost use Rattle.std.specs.Prelude.{◌≡◌, ◌<◌, ◌≤◌, ◌%◌, ◌++◌, length, drop, replicate, None, position, is_none};
+ghost use Rattle.std.specs.Prelude.{◌≡◌, ◌<◌, ◌≤◌, ◌%◌, length, replicate, None, position, is_none};
 ghost use Rattle.channel.specs.Places.{frame_of, frames_of, filled, read_place, spared, answer, written};
 
 use crate::Taken;
+use crate::giving::give;
 use arrayvec::ArrayVec;
 use frame::FRAME_ROOM;
 use std::array;
@@ -15,22 +16,6 @@ const PLACES: usize = 16;
 pub(crate) struct Carried {
     pub(crate) octets: ArrayVec<u8, FRAME_ROOM>,
     pub(crate) slot: u32,
-}
-
-impl Carried {
-    /// Writes the frame at the front of a buffer.
-    fn write(&self, buffer: &mut [u8]) -> Taken
-        requires { 61 ≤ length buffer.old }
-        ensures taken { result ≡ record { len = length self.now.octets.items; slot = self.now.slot } }
-        ensures buffer { buffer.new ≡ self.now.octets.items ++ drop (length self.now.octets.items) buffer.old }
-    {
-        let len = self.octets.len();
-        buffer[..len].copy_from_slice(&self.octets);
-        Taken {
-            len,
-            slot: self.slot,
-        }
-    }
 }
 
 /// The places of one lane: each is empty or holds a frame.
@@ -73,7 +58,9 @@ impl Places {
         ensures buffer { buffer.new ≡ written (read_place at since (frames_of self.now)) buffer.old }
     {
         match &self.places[at] {
-            Some(frame) if frame.slot >= since => Some(frame.write(buffer)),
+            Some(frame) if frame.slot >= since => {
+                Some(give(frame.octets.as_slice(), frame.slot, buffer))
+            },
             _ => None,
         }
     }

@@ -1,10 +1,11 @@
 //! The wire: a channel that gives each frame once, in the order of the puts.
-ghost use Rattle.std.specs.Prelude.{◌≡◌, ◌≤◌, ◌++◌, [], drop, length, MatchResult};
+ghost use Rattle.std.specs.Prelude.{◌≡◌, ◌≤◌, [], length, MatchResult};
 ghost use Rattle.std.proofs.Common.{lit≤};
 ghost use Rattle.channel.specs.Channels.{Slots, Puts, Takes};
 ghost use Rattle.channel.specs.Places.{answer, written};
 ghost use Rattle.channel.specs.WaitingLines.{empty, oldest, pushed, popped};
 
+use crate::giving::give;
 use crate::{Channel, ChannelFault, Delays, Lane, Taken, WaitingLine};
 use frame::FRAME_ROOM;
 use rules::last_slot;
@@ -49,20 +50,6 @@ impl Entry {
         let mut octets = [0; FRAME_ROOM];
         octets[..len].copy_from_slice(frame);
         Ok(Entry { octets, len, slot })
-    }
-
-    /// Writes the frame at the front of a buffer.
-    fn write(&self, buffer: &mut [u8]) -> Taken
-        requires { 61 ≤ length buffer.old }
-        ensures taken { result ≡ record { len = self.now.len; slot = self.now.slot } }
-        ensures buffer { buffer.new ≡ (underway_of self.now).0 ++ drop self.now.len buffer.old }
-    {
-        let len = self.len;
-        buffer[..len].copy_from_slice(&self.octets[..len]);
-        Taken {
-            len,
-            slot: self.slot,
-        }
     }
 }
 
@@ -111,7 +98,7 @@ impl<'a> WireLane<'a> {
         ensures lane { self.new ≡ popped self.old }
     {
         let entry = self.frames.pop()?;
-        Some(entry.write(buffer))
+        Some(give(&entry.octets[..entry.len], entry.slot, buffer))
     }
 
     /// Drops the frames at the front that were put before the slot `since`.
