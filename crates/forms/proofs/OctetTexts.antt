@@ -1,16 +1,20 @@
 -- Texts of lists of octets: how one grows, what can follow its beginning, and where a text stops to be the beginning of one.
-use Rattle.std.proofs.Common.{◌≡◌, ℕ, zero, suc, ◌+◌, ◌-◌, ◌*◌, ◌^◌, ◌/◌, ◌%◌, ◌<◌, ◌≤◌, List, [], ◌∷◌, ◌++◌, length, get_or, take, drop, false, Some, Ok, Err, vec_items, Result, Vec, sym, refl, ap, ◌∙◌, subst, inl, inr, append_assoc, append-nil, arith, length-append}
+use Rattle.std.proofs.Common.{◌≡◌, ℕ, zero, suc, ◌+◌, ◌-◌, ◌*◌, ◌/◌, ◌%◌, ◌<◌, ◌≤◌, List, [], ◌∷◌, ◌++◌, length, get_or, take, drop, Ok, Err, vec_items, Result, Vec, sym, refl, ap, ◌∙◌, subst, inl, inr, append_assoc, append-nil, arith, length-append}
 use Rattle.frame.proofs.Departures.{one_place}
 use Rattle.frame.specs.Beginnings.{Begins, FirstWrong}
-use Rattle.std.specs.Fmt.{digits, digits_output, format_spec, styled_digits_output}
 use Rattle.std.specs.List.{flat_map}
-use Rattle.std.proofs.lemmas.Fmt.{hex_byte}
 use Rattle.std.proofs.lemmas.Grind.{flat_map-append}
 use Rattle.std.proofs.lemmas.List.{take_all, take_more, length-take-le}
 use Rattle.std.proofs.lemmas.Bool.Decides.{nat_tests}
 use Rattle.forms.specs.declared.octets.OctetsFault.{OctetsFault}
 use Rattle.forms.specs.declared.octets.OctetsFault.TheVariants.{Misfit, Memory}
 use Rattle.forms.specs.Octets.{digit, spaced_text, octets_text, AreOctets, IsOctets, NoDigit, Octet, HalfOctet, OctetAt, OctetsRead, Unread, ReadBack, TextTells}
+
+digit_past_space : (d : ℕ) → 32 < digit d
+digit_past_space d = grind (arith, nat_tests)
+
+no_digit_low : (c : ℕ) → c ≤ 32 → NoDigit c
+no_digit_low c l d h e = omega (arith, digit_past_space d)
 
 digit_same : (d e : ℕ) → d < 16 → e < 16 → digit d ≡ digit e → d ≡ e
 digit_same d e l m h = grind (arith, nat_tests)
@@ -179,11 +183,6 @@ module _ (text bs : List ℕ) (place : ℕ) (stands : Stands text bs place) wher
   -- nothing stands behind them
   pub all_read : length text ≤ place → AreOctets bs × (text ≡ octets_text bs)
   all_read end = (stands.octets, sym (take_all place text end) ∙ stands.before)
-
--- what `{:02x}` prints of an octet
-pub octet_shown : (shown : _) (spec : _) (b : ℕ) → b < 256 → digits_output shown ≡ Some (digits 16 false b) → spec ≡ format_spec 32 0 4 2 (2 ^ 64 - 1)
-    → styled_digits_output shown spec ≡ Some (octets_text (b ∷ []))
-octet_shown shown spec b small is options = rw (options, is) (ap Some (hex_byte false b small))
 
 -- one more octet behind a space
 pub text_more : (rest : List ℕ) (i : ℕ) → i < length rest → spaced_text (take i rest) ++ 32 ∷ octets_text (get_or rest i 0 ∷ []) ≡ spaced_text (take (i + 1) rest)

@@ -95,6 +95,17 @@ data_goes bs way k (Data on number bdu) s = same_way (way_of number) way (sym s.
 data_goes bs way k (Report on oldest flags) s =
     let r = report_kind_high (way_of oldest) in let d = data_kind_low way in let e = s.kind in absurd (omega arith)
 
+same_report_way : (v w : Way) → (kind_octet (report_kind v) ≡ kind_octet (report_kind w)) → v ≡ w
+same_report_way Up Up e = refl
+same_report_way Up Down e = absurd (omega arith)
+same_report_way Down Up e = absurd (omega arith)
+same_report_way Down Down e = refl
+
+pub report_goes : (bs : List ℕ) (way : Way) → kind_at bs ≡ kind_octet (report_kind way) → OnlyGoes way bs
+report_goes bs way k (Report on oldest flags) s = same_report_way (way_of oldest) way (sym s.kind ∙ k)
+report_goes bs way k (Data on number bdu) s =
+    let r = report_kind_high way in let d = data_kind_low (way_of number) in let e = s.kind in absurd (omega arith)
+
 -- an octet comes back from its header
 octet_back : (octet : ℕ) → octet < 256 → header_octet (header_of octet) ≡ octet
 octet_back octet small = search rules

@@ -1,7 +1,7 @@
 -- The number by which programs and logs call each reason of a refusal.
 use Rattle.std.specs.Prelude.{ℕ}
 use Rattle.frame.specs.declared.fault.Reason.{Reason}
-use Rattle.frame.specs.declared.fault.Reason.TheVariants.{Slot, Packet, Buffer, Unreadable, LogOn, Elsewhere, Number, Contradiction, NoReference, Aircraft, NoRecord, NoNotices, Form}
+use Rattle.frame.specs.declared.fault.Reason.TheVariants.{Slot, Packet, Buffer, Unreadable, LogOn, Elsewhere, Number, Contradiction, NoReference, Aircraft, NoRecord, NoNotices, Form, Other}
 
 abbrev pub number_of : Reason → ℕ
 number_of Slot = 1
@@ -17,3 +17,4 @@ number_of Aircraft = 10
 number_of NoRecord = 11
 number_of NoNotices = 12
 number_of Form = 13
+number_of (Other number) = number

@@ -49,5 +49,9 @@ pub fn part(packet: &[u8], bsn: u8) -> Option<&[u8]>
     ensures part { PartCut packet.now bsn result }
     ensures join { PartsJoin }
 {
-    packet.chunks(BDU_ROOM).nth(usize::from(bsn))
+    // Not `chunks(..).nth(..)`: the library's `nth` goes by each chunk before.
+    packet
+        .get(BDU_ROOM * usize::from(bsn)..)?
+        .chunks(BDU_ROOM)
+        .next()
 }

@@ -17,31 +17,33 @@ pub enum Layer {
 #[derive(Clone, Copy)]
 pub enum Reason {
     /// A slot below the clock or above the last one.
-    Slot = 1,
+    Slot,
     /// A packet of no or over 424 octets, or a priority or reference number above 3.
-    Packet = 2,
+    Packet,
     /// A buffer that is too short for a frame or a packet, or a frame that is too long for a channel.
-    Buffer = 3,
+    Buffer,
     /// A frame that cannot be read; the refusal has the place of the first octet that is wrong, missing or too many.
-    Unreadable = 4,
+    Unreadable,
     /// A log-on number that is not greater, or a call that needs a log-on, where there was none.
-    LogOn = 5,
+    LogOn,
     /// A frame for another direction, aircraft or log-on.
-    Elsewhere = 6,
+    Elsewhere,
     /// A data number that is not awaited, or a report that acknowledges what it cannot.
-    Number = 7,
+    Number,
     /// A BDU that contradicts its place.
-    Contradiction = 8,
+    Contradiction,
     /// No reference number of the priority is free.
-    NoReference = 9,
+    NoReference,
     /// Aircraft 0 or 255, another than a logged-on end's, or one that is not in the station's table.
-    Aircraft = 10,
+    Aircraft,
     /// No record of the station is free.
-    NoRecord = 11,
+    NoRecord,
     /// Too few places for notices.
-    NoNotices = 12,
+    NoNotices,
     /// A line that is no form; the refusal has the column of the first character that fits none.
-    Form = 13,
+    Form,
+    /// A caller's own reason, by its number; no call of ours answers it.
+    Other(u8),
 }
 
 impl From<Reason> for u8 {
@@ -49,7 +51,22 @@ impl From<Reason> for u8 {
 
     /// The number of a reason.
     fn from(reason: Reason) -> u8 {
-        reason as u8
+        match reason {
+            Reason::Slot => 1,
+            Reason::Packet => 2,
+            Reason::Buffer => 3,
+            Reason::Unreadable => 4,
+            Reason::LogOn => 5,
+            Reason::Elsewhere => 6,
+            Reason::Number => 7,
+            Reason::Contradiction => 8,
+            Reason::NoReference => 9,
+            Reason::Aircraft => 10,
+            Reason::NoRecord => 11,
+            Reason::NoNotices => 12,
+            Reason::Form => 13,
+            Reason::Other(number) => number,
+        }
     }
 }
 

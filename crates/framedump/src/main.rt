@@ -2,6 +2,7 @@
 #![tactic(auto)]
 
 use dump::dump_line;
+use forms::without_newline;
 use std::io;
 use std::io::{BufRead, BufReader};
 
@@ -10,9 +11,15 @@ mod flagged;
 mod text;
 
 fn main(rt: HostRuntime) -> io::Result<()> {
-    let input = BufReader::new(rt.alloc(), rt.stdin())?;
-    for line in input.split(rt.alloc(), b'\n') {
-        let text = dump_line(rt.alloc(), &line?)?;
+    let mut input = BufReader::new(rt.alloc(), rt.stdin())?;
+    // One memory for all lines, where `split` takes one for each; and what a line is, `without_newline` says.
+    let mut line = Vec::new(rt.alloc());
+    for _ in 0..u64::MAX {
+        line.clear();
+        if input.read_until(b'\n', &mut line)? == 0 {
+            break;
+        }
+        let text = dump_line(rt.alloc(), without_newline(&line))?;
         println!(rt; "{text}")?;
     }
     Ok(())

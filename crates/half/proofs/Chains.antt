@@ -1,5 +1,5 @@
 -- The sending halves that the worked examples come by.
-use Rattle.std.proofs.Common.{ℕ, false, [], ◌∷◌, refl, arith}
+use Rattle.std.proofs.Common.{◌≡◌, ℕ, false, [], ◌∷◌, refl, arith}
 use Rattle.rules.specs.Choice.{chosen}
 use Rattle.rules.specs.Examples.{key, loaded, gone}
 use Rattle.rules.specs.Sending.{Sending, Answer, Sends, accepted, sent, heard, slotted}
@@ -27,6 +27,10 @@ waits = (idle (gone 10) refl, refl)
 pub goes_again : Sends 12 0 returned (Answer.Sent 0 (key 0) false (65 ∷ [])) again
 unfolding chosen
 goes_again = (next returned (key 0) refl, omega arith, omega arith, refl, refl, refl, refl)
+
+-- a report that comes one slot later leaves it on its way
+pub unmoved : heard 0 (flagged 0) 11 (gone 10) ≡ gone 10
+unmoved = refl
 
 -- expired in slot 174, and resting until slot 249
 abbrev pub resting : Sending

@@ -44,7 +44,7 @@ pub struct Examples {
 // The half, the count and the slot are the arguments of a send; each example has others.
 /// Sends what is to be sent next.
 fn go<D: Direction>(sender: &mut Sender<D>, count: u8, slot: u32) -> Option<Sent>
-    ensures { Goes count slot sender.old result sender.new }
+    ensures { Goes count slot sender.old.holds result sender.new.holds }
 {
     let Ok(next) = sender.choose(count) else {
         return None;

@@ -1,6 +1,6 @@
 -- What is held of a packet's BDUs, counted and joined one by one.
-use Rattle.std.proofs.Common.{MatchResult, cond, set, Result, Ok, Err, ◌≡◌, ℕ, suc, ◌+◌, ◌<◌, ◌≤◌, true, false, List, [], ◌∷◌, ◌++◌, map, length, take, drop, is_some, Some, None, Option, sym, refl, ap, ◌∙◌, arith}
-use Rattle.std.proofs.lemmas.List.{map-set, drop-map, take-map}
+use Rattle.std.proofs.Common.{MatchResult, cond, set, Result, Ok, Err, ◌≡◌, ℕ, suc, ◌+◌, ◌<◌, ◌≤◌, true, false, List, [], ◌∷◌, ◌++◌, map, length, take, drop, get_or, replicate, is_some, Some, None, Option, sym, refl, ap, ◌∙◌, arith}
+use Rattle.std.proofs.lemmas.List.{append_assoc, length-map, map-set, drop-map, take-map, take_more}
 use Rattle.arrayvec.specs.ArrayVec.{ArrayVec}
 use Rattle.std.specs.List.{list_any, list_all}
 use Rattle.std.specs.Result.{result_ok}
@@ -68,6 +68,26 @@ gathered_none ps e = none (gathered ps) e
     none : (o : Option (List ℕ)) → is_some o ≡ false → o ≡ None
     none None e = refl
     none (Some xs) e = absurd (let z : ◌≡◌ {A = ℕ} 0 1 = cc in omega arith)
+
+joined_append : (ps qs : List (Option (List ℕ))) → joined (ps ++ qs) ≡ joined ps ++ joined qs
+joined_append [] qs = refl
+joined_append (None ∷ ps) qs = joined_append ps qs
+joined_append (Some xs ∷ ps) qs = ap (λ r. xs ++ r) (joined_append ps qs) ∙ sym (append_assoc xs (joined ps) (joined qs))
+
+-- one BDU more
+pub joined_more : (ps : List (Option (List ℕ))) (i : ℕ) → i < length ps → joined (take (i + 1) ps) ≡ joined (take i ps) ++ joined (get_or ps i None ∷ [])
+joined_more ps i l = ap joined (take_more ps i None l) ∙ joined_append (take i ps) (get_or ps i None ∷ [])
+
+-- a row of which nothing is held any more
+abbrev pub emptied : Option (List ℕ) → Option (List ℕ)
+emptied o = None
+
+nones : (ps : List (Option (List ℕ))) → map emptied ps ≡ replicate (length ps) None
+nones [] = refl
+nones (p ∷ ps) = ap (λ qs. None ∷ qs) (nones ps)
+
+pub all_none : (ps qs : List (Option (ArrayVec ℕ))) → length ps ≡ 8 → map piece_of qs ≡ map emptied (map piece_of ps) → map piece_of qs ≡ replicate 8 None
+all_none ps qs eight e = e ∙ nones (map piece_of ps) ∙ ap (λ n. replicate n None) (length-map ps piece_of ∙ eight)
 
 -- the packet of a place, by whether the BDUs up to the last are held
 module _ (ps : List (Option (List ℕ))) (last : Option ℕ) (l : ℕ) (is : last ≡ Some l) where

@@ -1,6 +1,6 @@
 //! The place of one Q and RN in a receiving half, with room for each of its BDUs.
-ghost use Rattle.std.specs.Prelude.{◌≡◌, ◌≤◌, ◌++◌, length, take, drop, is_some};
-ghost use Rattle.receiver.specs.Places.{place_of, bdu_of, joined, Whole, Emptied};
+ghost use Rattle.std.specs.Prelude.{◌≡◌, ◌≤◌, ◌++◌, length, take, drop, is_some, None};
+ghost use Rattle.receiver.specs.Places.{piece_of, place_of, bdu_of, joined, Whole, Emptied};
 ghost use Rattle.rules.specs.Receiving as rule;
 
 use arrayvec::ArrayVec;
@@ -77,6 +77,19 @@ impl Place {
         self.pieces[usize::from(header.bsn)] = ArrayVec::try_from(bdu.payload).ok();
     }
 
+    /// Empties the place.
+    // Where it lies: a place made anew is half a kilobyte to write, and from slot 75 on an idle half empties all its places in
+    // every slot.
+    fn clear(&mut self)
+        ensures { place_of self.new ≡ rule.empty }
+    {
+        self.opened = 0;
+        self.last = None;
+        for piece in &mut self.pieces {
+            forget(piece);
+        }
+    }
+
     /// Writes what is held of the first `count` BDUs, one behind the other, at the front of the packet, and answers how
     /// many octets these are.
     fn gather(&self, count: usize, packet: &mut [u8]) -> usize
@@ -105,7 +118,7 @@ impl Place {
             return None;
         }
         let len = self.gather(count, buffer);
-        *self = Place::new();
+        self.clear();
         Some(len)
     }
 
@@ -114,7 +127,17 @@ impl Place {
         ensures { place_of self.new ≡ rule.aged slot (place_of self.old) }
     {
         if has_passed(self.opened, hold(), slot) {
-            *self = Place::new();
+            self.clear();
         }
+    }
+}
+
+/// The room for a BDU holds none from now on.
+fn forget(piece: &mut Option<ArrayVec<u8, BDU_ROOM>>)
+    ensures { piece_of piece.new ≡ None }
+{
+    // Only where one is held, since the whole room is written.
+    if piece.is_some() {
+        *piece = None;
     }
 }

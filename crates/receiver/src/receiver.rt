@@ -21,16 +21,20 @@ pub struct Receiver<D: Direction> {
     places: [Place; HALF_PACKETS],
 }
 
-// A contract sees a half as the rules do: R as a number, and of each place what is held.
+// A contract sees a half as the rules do: R as a number, and of each place what is held; and beside it R as it is stored.
 impl<D: Direction> Model for Receiver<D> {
+    ghost use Rattle.rules.specs.Halves.{Half};
     ghost use Rattle.rules.specs.Receiving.{Receiving};
 
-    ghost Value = { Receiving };
+    ghost Value = { Half Receiving D.Number };
 
     ghost use Rattle.std.specs.Prelude.{◌≡◌, length, map};
     ghost use Rattle.receiver.specs.Places.{place_of};
 
-    ghost view = { λ half. record { oldest = D.Number.Number.value half.oldest; flags = half.flags; places = map place_of half.places } };
+    ghost view = { λ half. record {
+      holds = record { oldest = D.Number.Number.value half.oldest; flags = half.flags; places = map place_of half.places };
+      oldest = half.oldest;
+    } };
 
     ghost invariant = { λ half. length half.places ≡ 16 };
 }
@@ -45,7 +49,7 @@ pub struct HandUp {
 impl<D: Direction> Receiver<D> {
     /// A half to which nothing came.
     pub fn new() -> Receiver<D>
-        ensures { result ≡ rule.new }
+        ensures { result.holds ≡ rule.new }
     {
         Receiver {
             oldest: D::Number::from_octet(0),
@@ -56,7 +60,7 @@ impl<D: Direction> Receiver<D> {
 
     /// Whether a number is among R to R+8 and not received.
     fn awaits(&self, number: D::Number) -> bool
-        ensures { result ≡ rule.awaited self.now (D.Number.Number.value number) }
+        ensures { result ≡ rule.awaited self.now.holds (D.Number.Number.value number) }
     {
         let k = usize::from(self.oldest.distance(number));
         k == 0 || k <= 8 && !self.flags[k - 1]
@@ -64,7 +68,7 @@ impl<D: Direction> Receiver<D> {
 
     /// How many numbers behind R are received with no gap.
     fn in_front(&self) -> usize
-        ensures count { result ≡ rule.front self.now.flags }
+        ensures count { result ≡ rule.front self.now.holds.flags }
         ensures most { result ≤ 8 }
     {
         self.flags.iter().take_while(|flag| **flag).count()
@@ -73,7 +77,7 @@ impl<D: Direction> Receiver<D> {
     /// The flags behind the first `by`, and unset ones behind them.
     fn shifted(&self, by: usize) -> [bool; 8]
         requires { by ≤ 9 }
-        ensures { result ≡ map (λ i. get_or self.now.flags (by + i) false) (range_with_len 0 8) }
+        ensures { result ≡ map (λ i. get_or self.now.holds.flags (by + i) false) (range_with_len 0 8) }
     {
         let flags = &self.flags;
         array::from_fn(|i| flags.get(by + i).copied().unwrap_or(false))
@@ -81,9 +85,9 @@ impl<D: Direction> Receiver<D> {
 
     /// Counts an awaited number as received, and moves R past all received numbers.
     fn receive(&mut self, number: D::Number)
-        requires { rule.awaited self.old (D.Number.Number.value number) ≡ true }
-        ensures { self.new ≡ rule.received (D.Number.Number.value number)
-            self.old }
+        requires { rule.awaited self.old.holds (D.Number.Number.value number) ≡ true }
+        ensures { self.new.holds ≡ rule.received (D.Number.Number.value number)
+            self.old.holds }
     {
         let k = usize::from(self.oldest.distance(number));
         if k > 0 {
@@ -107,9 +111,9 @@ impl<D: Direction> Receiver<D> {
         slot: u32,
         buffer: &mut [u8],
     ) -> Result<Option<HandUp>, EndFault>
-        ensures rule { Takes self.old (D.Number.Number.value number)
+        ensures rule { Takes self.old.holds (D.Number.Number.value number)
             (bdu_of bdu.entry) slot buffer.old result
-            self.new buffer.new }
+            self.new.holds buffer.new }
         ensures kept { Kept result self.old self.new }
     {
         if buffer.len() < PACKET_ROOM {
@@ -132,7 +136,7 @@ impl<D: Direction> Receiver<D> {
 
     /// The slot begins: places that were opened 75 slots ago or more are emptied.
     pub fn slot(&mut self, slot: u32)
-        ensures { self.new ≡ rule.slot slot self.old }
+        ensures { self.new.holds ≡ rule.slot slot self.old.holds }
     {
         for place in &mut self.places {
             place.age(slot);
@@ -141,7 +145,7 @@ impl<D: Direction> Receiver<D> {
 
     /// What a report says now.
     pub fn report(&self) -> Report<D::Number>
-        ensures { Says self.now (D.Number.Number.value result.oldest) result.flags.octet }
+        ensures { Says self.now.holds (D.Number.Number.value result.oldest) result.flags.octet }
     {
         Report {
             oldest: self.oldest,
@@ -151,7 +155,7 @@ impl<D: Direction> Receiver<D> {
 
     /// What the half shows: R, and which of R+1 to R+8 are received.
     pub fn shows(&self) -> Shown<D::Number>
-        ensures { ShowsFlags self.now (D.Number.Number.value result.oldest) result.done }
+        ensures { ShowsFlags self.now.holds (D.Number.Number.value result.oldest) result.done }
     {
         Shown {
             oldest: self.oldest,

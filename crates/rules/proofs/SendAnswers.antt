@@ -1,5 +1,5 @@
 -- The rules of send always leave exactly one answer.
-use Rattle.std.proofs.Common.{ℕ, ◌+◌, ◌≤◌, ltb, ◌⊎◌, Some, None, Option, sym, refl, ◌∙◌, subst, inl, inr, ⊎_elim, arith}
+use Rattle.std.proofs.Common.{◌≡◌, ℕ, ◌+◌, ◌≤◌, ltb, ◌⊎◌, Some, None, Option, sym, refl, ap, ◌∙◌, subst, inl, inr, ⊎_elim, arith}
 use Rattle.std.proofs.lemmas.Bool.{cases_lt}
 use Rattle.frame.specs.Numbers.{advanced}
 use Rattle.rules.specs.Constants.{a_slot, window_size}
@@ -35,6 +35,17 @@ one_answer now count S (Answer.Sent n b m o) (Answer.Sent k c l p) S1 S2 x y =
 chosen_or : (S : Sending) (r : Option BduKey) → Chosen S r → Idle S ⊎ ((b : BduKey) × (t : ℕ) × Next S b t)
 chosen_or S None h = inl h
 chosen_or S (Some b) h = inr (b, h.0, h.1)
+
+-- there is one choice
+one_choice : (S : Sending) (r s : Option BduKey) → Chosen S r → Chosen S s → r ≡ s
+one_choice S None None x y = refl
+one_choice S None (Some c) x y = absurd (x c y.0 y.1.here)
+one_choice S (Some b) None x y = absurd (y b x.0 x.1.here)
+one_choice S (Some b) (Some c) x y = ap Some (next_one S b c x.0 y.0 x.1 y.1)
+
+-- so what is chosen is what the search in the row finds
+pub chosen_is : (S : Sending) (r : Option BduKey) → Chosen S r → r ≡ chosen S.packets 128
+chosen_is S r h = one_choice S r (chosen S.packets 128) h (finds_next S)
 
 pub some_answer : SomeAnswer
 some_answer now count S =

@@ -10,6 +10,7 @@ pub mod Reports
 pub mod Refusals
 pub mod Ends
 pub mod Examples
+pub mod Halves
 pub mod Kept
 pub mod Octets
 pub mod Keys

@@ -1,15 +1,15 @@
 -- From what the code finds to what the calls of a sending half promise.
-use Rattle.std.proofs.Common.{◌≡◌, ℕ, ◌+◌, ◌*◌, ◌<◌, ◌≤◌, Bool, true, false, ltb, List, [], ◌∷◌, ◌++◌, map, length, drop, set, replicate, Some, Ok, Err, Result, sym, refl, ap, ◌∙◌, subst, arith, length-drop, length-take}
-use Rattle.std.proofs.lemmas.Bool.{ltb-true}
+use Rattle.std.proofs.Common.{◌≡◌, ℕ, ◌+◌, ◌*◌, ◌<◌, ◌≤◌, Bool, true, false, ltb, ◌||◌, List, [], ◌∷◌, ◌++◌, map, length, drop, set, replicate, Some, None, Ok, Err, Result, sym, refl, ap, ◌∙◌, subst, arith, length-drop, length-take}
+use Rattle.std.proofs.lemmas.Bool.{ltb-true, le-ltb, ne_eqb, or_from}
 use Rattle.frame.specs.Numbers.{advanced}
 use Rattle.rules.specs.Ends.{Rows, refused_by}
-use Rattle.rules.specs.Sending.{Outgoing, Sending, packet, place, pieces, piece, Waits, Next, Answer, Sends, opening, sent, is_whole, closed, credit, judge, lead, heard}
+use Rattle.rules.specs.Sending.{Outgoing, Sending, packet, place, pieces, piece, Waits, Next, Answer, Sends, opening, sent, is_whole, closed, credit, judge, lead, heard, passed}
 use Rattle.rules.specs.declared.fault.EndFault.{EndFault}
 use Rattle.rules.specs.declared.fault.EndFault.TheVariants as fault
 use Rattle.rules.specs.declared.window.BduKey.{BduKey}
 use Rattle.rules.specs.declared.window.Mark.{Mark}
 use Rattle.sender.specs.Hearings.{tells}
-use Rattle.sender.specs.Senders.{key_of, flagged, hearing_of, payload_of, Fitting, Outcome, Foretells}
+use Rattle.sender.specs.Senders.{key_of, flagged, hearing_of, payload_of, accept_rows, Fitting, Outcome, Foretells}
 use Rattle.frame.specs.declared.header.BduHeader.{BduHeader}
 use Rattle.sender.specs.Sets.{marked}
 use Rattle.sender.specs.declared.hearing.Hearing.{Hearing}
@@ -22,6 +22,13 @@ refuses b f rows e = ap (λ x. refused_by ((x, f) ∷ rows)) e
 
 pub passes : (b : Bool) (f : EndFault) (rows : Rows) → b ≡ false → refused_by ((b, f) ∷ rows) ≡ refused_by rows
 passes b f rows e = ap (λ x. refused_by ((x, f) ∷ rows)) e
+
+-- what accept takes, no row refuses
+pub accept_open : (S : Sending) (q : ℕ) (octets : List ℕ) → 1 ≤ length octets → length octets ≤ 424 → q ≤ 3 → passed S q < 4 → refused_by (accept_rows S q octets) ≡ None
+accept_open S q octets some most small free =
+    let n : ℕ = length octets in
+    passes _ fault.Packet _ (or_from (ltb n 1) (ltb 424 n || ltb 3 q) (le-ltb n 1 some) (or_from (ltb 424 n) (ltb 3 q) (le-ltb 424 n most) (le-ltb 3 q small)))
+    ∙ passes _ fault.NoReference [] (ne_eqb (passed S q) 4 (λ e. omega arith))
 
 -- the answer to a report
 outcome_foretells : (R octet now : ℕ) (S : Sending) (r : Result PacketSet EndFault) → Outcome (hearing_of R octet now S) S.window S.packets r → Foretells R (flagged octet) now S r

@@ -1,10 +1,10 @@
 -- What a report makes of the packets, place by place: the BDUs of one packet after the numbers are judged one by one.
-use Rattle.std.proofs.Common.{◌≡◌, ℕ, suc, ◌+◌, Bool, true, false, eqb, List, [], ◌∷◌, map, length, get_or, set, Some, None, sym, refl, ap, ◌∙◌, subst, ⊎_elim, arith}
+use Rattle.std.proofs.Common.{◌≡◌, ℕ, zero, suc, ◌+◌, ◌<◌, Bool, true, false, eqb, List, [], ◌∷◌, map, length, get_or, set, take, Some, None, sym, refl, ap, ◌∙◌, subst, suc-add, ⊎_elim, arith}
 use Rattle.std.specs.Prelude.{fold}
 use Rattle.std.specs.List.{enumerate_from}
 use Rattle.std.proofs.lemmas.List.{length-map, get_or-set_same, get_or-set_other, set_past, get_or_past}
 use Rattle.std.proofs.lemmas.Bool.{cases_lt, cases_eq, eq-eqb, ne_eqb, cond-true, cond-false}
-use Rattle.sender.specs.Hearings.{moved_by, step, credit_step, credit_of}
+use Rattle.sender.specs.Hearings.{moved_by, moved_on, step, credit_step, credit_of}
 use Rattle.sender.specs.Packets.{packet_of, with_bdus}
 use Rattle.sender.specs.declared.packet.Packet.{Packet}
 use Rattle.sender.proofs.PacketRow.{nothing, packet_at}
@@ -73,3 +73,20 @@ packet_credited tell now ms ps p =
 
 pub length_credited : (tell : ℕ → Bool) (now : ℕ) (ms : List Mark) (ps : List Packet) → length (credit tell now ms (map packet_of ps)) ≡ length ps
 length_credited tell now ms ps = credit_length tell now ms (map packet_of ps) ∙ length-map ps packet_of
+
+-- the numbers are judged one by one
+pub credit_more : (tell : ℕ → Bool) (now : ℕ) (ms : List Mark) (ps : List Outgoing) (i : ℕ) → i < length ms
+    → credit tell now (take (i + 1) ms) ps ≡ credited (get_or ms i Mark.Unused) (tell i) (is_old now (get_or ms i Mark.Unused)) (credit tell now (take i ms) ps)
+credit_more tell now [] ps i l = absurd (omega arith)
+credit_more tell now (m ∷ ms) ps zero l = refl
+credit_more tell now (m ∷ ms) ps (suc i) l = rw (suc-add i 1) (credit_more (λ k. tell (suc k)) now ms (credited m (tell 0) (is_old now m) ps) i (omega arith))
+
+-- a number moves its BDU on
+pub credited_moves : (m : Mark) (tell old : Bool) (ps : List Outgoing) → credited m tell old ps ≡ moved_on (moved_by m tell old) ps
+credited_moves Mark.Unused t o ps = refl
+credited_moves (Mark.OnItsWay s None) t o ps = refl
+credited_moves (Mark.OnItsWay s (Some b)) true o ps = refl
+credited_moves (Mark.OnItsWay s (Some b)) false true ps = refl
+credited_moves (Mark.OnItsWay s (Some b)) false false ps = refl
+credited_moves Mark.Acknowledged t o ps = refl
+credited_moves Mark.Returned t o ps = refl

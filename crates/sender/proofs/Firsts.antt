@@ -3,8 +3,9 @@ use Rattle.std.proofs.Common.{◌≡◌, ℕ, zero, suc, ◌<◌, ◌≤◌, Boo
 use Rattle.std.specs.List.{list_all, find, range_with_len}
 use Rattle.std.specs.Option.{option_map}
 use Rattle.std.proofs.lemmas.List.FromFn.{length-map-range_with_len, get_or-map-range_with_len}
-use Rattle.std.proofs.lemmas.Bool.{cases_lt, le-leb, lt-leb}
+use Rattle.std.proofs.lemmas.Bool.{cases_lt, cases_order, both_ways, le-leb, lt-leb}
 use Rattle.rules.specs.Sending.{first}
+use Rattle.rules.proofs.Lists.{first_most, first_passes, first_least}
 
 first_same : (n : ℕ) (f g : ℕ → Bool) → ((k : ℕ) → k < n → f k ≡ g k) → first n f ≡ first n g
 first_same zero f g e = refl
@@ -60,3 +61,17 @@ pub all_first : {A : Type 0} (f : A → Bool) (d : A) (xs : List A) (n : ℕ) �
 all_first f d xs zero l = sym (le-leb 0 0 (omega arith))
 all_first f d [] (suc n) l = absurd (omega arith)
 all_first f d (x ∷ xs) (suc n) l = all_more (f x) _ _ n _ (all_first f d xs n (omega arith)) refl
+
+-- the first place is the one before which none passes
+pub first_is : (n : ℕ) (f : ℕ → Bool) (i : ℕ) → i < n → f i ≡ true → ((j : ℕ) → j < i → f j ≡ false) → first n f ≡ i
+first_is n f i l e none =
+    ⊎_elim (λ s. s)
+    (⊎_elim
+    (λ m. absurd (both_ways _ (none (first n f) m) (first_passes n f (omega arith))))
+    (λ m. absurd (both_ways _ (first_least n f i m) e)))
+    (cases_order (first n f) i)
+
+pub first_none : (n : ℕ) (f : ℕ → Bool) → ((j : ℕ) → j < n → f j ≡ false) → first n f ≡ n
+first_none n f none =
+    let most = first_most n f in
+    ⊎_elim (λ m. absurd (both_ways _ (none (first n f) m) (first_passes n f m))) (λ g. omega arith) (cases_lt (first n f) n)

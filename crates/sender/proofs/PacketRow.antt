@@ -1,15 +1,12 @@
 -- Packets of the code as the rules see them, place by place.
-use Rattle.std.proofs.Common.{◌≡◌, ℕ, ◌<◌, ◌≤◌, Bool, false, List, [], map, length, get_or, set, sym, ap, ◌∙◌, arith, lit≤}
+use Rattle.std.proofs.Common.{◌≡◌, ℕ, ◌<◌, ◌≤◌, List, [], map, length, get_or, set, sym, ap, ◌∙◌, arith, lit≤}
 use lib.ListN.{length-map}
-use denote.Ref.{Bor}
-use Rattle.std.proofs.lemmas.List.{map-set, get_or-map, set_past, ext_get_or}
+use Rattle.std.proofs.lemmas.List.{map-set, get_or-map, set_past}
 use Rattle.sender.specs.Packets.{packet_of, with_bdus}
 use Rattle.sender.specs.declared.packet.Packet.{Packet}
 use Rattle.rules.specs.Sending.{Outgoing, blank, place, moved}
 use Rattle.rules.specs.declared.window.BduKey.{BduKey}
 use Rattle.rules.specs.declared.window.Progress.{Progress}
-use Rattle.rules.specs.declared.window.Standing.{Standing}
-use Rattle.sender.specs.Standings.{standing_of}
 use Rattle.sender.specs.declared.standing.Tenure.{Tenure}
 use Rattle.rules.proofs.Lists.{get_or_map}
 
@@ -23,19 +20,6 @@ packet_at ps p = get_or_map packet_of ps nothing p
 -- a packet put in its place
 pub packet_put : (ps : List Packet) (p : ℕ) (x : Packet) (o : Outgoing) → packet_of x ≡ o → map packet_of (set ps p x) ≡ set (map packet_of ps) p o
 packet_put ps p x o e = map-set packet_of ps p x ∙ ap (set (map packet_of ps) p) e
-
--- what is asked of the standing of each packet
-pub all_asked : (test : Standing → Bool) (none : Bor Packet) (n : ℕ) (rs : List (Bor Packet)) (ys : List Bool) (ps : List Packet) → map (λ r. r.now) rs ≡ ps → length rs ≡ n → length ys ≡ n
-    → ((k : ℕ) → k < n → get_or ys k false ≡ test (standing_of (get_or rs k none).now.standing)) → ys ≡ map (λ (o : Outgoing). test o.standing) (map packet_of ps)
-all_asked test none n rs ys ps e l m h =
-    let a = length-map ps packet_of in
-    let b = length-map rs (λ (r : Bor Packet). r.now) in
-    let c = ap length e in
-    let d = length-map (map packet_of ps) (λ (o : Outgoing). test o.standing) in
-    ext_get_or false ys (map (λ (o : Outgoing). test o.standing) (map packet_of ps)) (omega arith)
-    (λ k i.
-    h k (omega arith) ∙ ap (λ (p : Packet). test (standing_of p.standing)) (sym (get_or-map (λ (r : Bor Packet). r.now) rs k none none.now (omega arith)) ∙ ap (λ xs. get_or xs k none.now) e)
-    ∙ sym (get_or-map (λ (o : Outgoing). test o.standing) (map packet_of ps) k (packet_of none.now) false (omega arith) ∙ ap (λ (o : Outgoing). test o.standing) (get_or-map packet_of ps k none.now (packet_of none.now) (omega arith))))
 
 -- one BDU goes on, of the packet x at its place
 pub packets_moved : (b : BduKey) (v : Progress) (ps : List Packet) (p : ℕ) (d y : Packet) → p ≡ place b → p < length ps → packet_of y ≡ with_bdus (set (get_or ps p d).bdus b.bsn v) (packet_of (get_or ps p d))

@@ -3,7 +3,7 @@ use Rattle.std.specs.Prelude.{ℕ, Bool, true, false, cond, List, Some, None, Op
 use Rattle.std.specs.List.{enumerate_from}
 use Rattle.sender.specs.declared.mark.Verdict.{Verdict}
 use Rattle.sender.specs.declared.hearing.Hearing.{Hearing}
-use Rattle.rules.specs.Sending.{place, told, judged, is_old}
+use Rattle.rules.specs.Sending.{Outgoing, place, told, judged, is_old, moved}
 use Rattle.rules.specs.declared.window.BduKey.{BduKey}
 use Rattle.rules.specs.declared.window.Mark.{Mark}
 use Rattle.rules.specs.declared.window.Progress.{Progress}
@@ -17,6 +17,11 @@ moved_by (Mark.OnItsWay slot (Some b)) false true = Some (b, Progress.Waiting)
 moved_by (Mark.OnItsWay slot (Some b)) false false = None
 moved_by Mark.Acknowledged tell old = None
 moved_by Mark.Returned tell old = None
+
+-- the packets after it moved on
+abbrev pub moved_on : Option (BduKey × Progress) → List Outgoing → List Outgoing
+moved_on None ps = ps
+moved_on (Some m) ps = moved m.0 m.1 ps
 
 abbrev pub verdict : Mark → Bool → Bool → Verdict
 verdict mark tell old = record { mark = judged mark tell old; moved = moved_by mark tell old }

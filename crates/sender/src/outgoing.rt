@@ -88,14 +88,13 @@ impl Packet {
                 .all(|bdu| matches!(bdu, Progress::Acknowledged))
     }
 
-    /// After a report: its BDUs are this far, and its reference number is free if it is confirmed.
-    pub(crate) fn settle(&mut self, bdus: [Progress; PACKET_BDUS])
-        ensures { packet_of self.new ≡ rule.closed (with_bdus bdus (packet_of self.old)) }
+    /// After a report: its reference number is free if it is pending and all its BDUs are acknowledged.
+    pub(crate) fn close(&mut self)
+        ensures { packet_of self.new ≡ rule.closed (packet_of self.old) }
     {
-        if self.is_whole_with(&bdus) {
+        if self.is_whole_with(&self.bdus) {
             self.standing = Tenure::Free;
         }
-        self.bdus = bdus;
     }
 
     /// The slot begins.

@@ -1,10 +1,10 @@
 //! The packets of a sending half, and which BDU of them goes next.
 ghost use Rattle.std.specs.Prelude.{◌≡◌, ◌+◌, ◌<◌, ◌≤◌, Bool, MatchOption, map, length, replicate, nat_lt, slice_set};
 ghost use Rattle.rules.specs.Keys.{place};
-ghost use Rattle.rules.specs.Choice.{nth, waiting, since, Chosen};
+ghost use Rattle.rules.specs.Choice.{nth, waiting, since, chosen, Chosen};
 ghost use Rattle.rules.specs.Sending as rule;
 ghost use Rattle.rules.specs.declared.window.Standing.{Standing};
-ghost use Rattle.sender.specs.Hearings.{tells};
+ghost use Rattle.sender.specs.Hearings.{tells, moved_on};
 ghost use Rattle.sender.specs.Packets.{packet_of, packet_in};
 ghost use Rattle.sender.specs.Standings.{standing_of};
 
@@ -105,7 +105,8 @@ impl Packets {
     /// The BDU to send: of those that wait the one of the highest Q, then of the earliest accept, then of the smallest RN and
     /// BSN.
     pub(crate) fn best(&self) -> Option<BduKey>
-        ensures { (S : rule.Sending) → S.packets ≡ self.now → Chosen S result }
+        ensures next { (S : rule.Sending) → S.packets ≡ self.now → Chosen S result }
+        ensures row { result ≡ chosen self.now 128 }
     {
         (0..128)
             .map(bdu_at)
@@ -159,9 +160,12 @@ impl Packets {
         ensures { (test : Standing → Bool) → ((t : Tenure) (r : Bool) → F.post asked t r → r ≡ test (standing_of t))
             → result.marks ≡ map (λ o. test o.standing) self.now }
     {
-        PacketSet {
-            marks: self.all.each_ref().map(|packet| asked(packet.standing)),
+        // Not `each_ref` and `map`: tried, and a slot call took two and a half times as long.
+        let mut marks = [false; HALF_PACKETS];
+        for (p, packet) in self.all.iter().enumerate() {
+            marks[p] = asked(packet.standing);
         }
+        PacketSet { marks }
     }
 
     /// Which packets a report confirms.
@@ -176,12 +180,39 @@ impl Packets {
         PacketSet { marks }
     }
 
+    /// The BDU that moves on does, if there is one.
+    fn move_on(&mut self, moved: Option<(BduKey, Progress)>)
+        ensures { self.new ≡ moved_on moved self.old }
+    {
+        if let Some((bdu, to)) = moved {
+            self.go_on(bdu, to);
+        }
+    }
+
+    /// Moves the BDUs of all packets on by a report.
+    // Number by number, as the rules do: by packet, as `confirmed` must, each number would be judged sixteen times.
+    fn credit(&mut self, report: &Hearing, window: &Window)
+        ensures { self.new ≡ rule.credit (tells report.now) report.now.slot window.now self.old }
+    {
+        for (k, mark) in window.as_slice().iter().enumerate() {
+            self.move_on(report.verdict(k, *mark).moved);
+        }
+    }
+
     /// Moves the BDUs of all packets on by a report, and frees the reference numbers of those that it confirms.
     pub(crate) fn settle(&mut self, report: &Hearing, window: &Window)
         ensures { self.new ≡ map rule.closed (rule.credit (tells report.now) report.now.slot window.now self.old) }
     {
-        for (p, packet) in self.all.iter_mut().enumerate() {
-            packet.settle(report.credited(window, p, packet.bdus));
+        self.credit(report, window);
+        self.close_all();
+    }
+
+    /// Frees the reference numbers of the pending packets of which all BDUs are acknowledged.
+    fn close_all(&mut self)
+        ensures { self.new ≡ map rule.closed self.old }
+    {
+        for packet in &mut self.all {
+            packet.close();
         }
     }
 

@@ -28,17 +28,21 @@ pub struct Sender<D: Direction> {
 }
 
 impl<D: Direction> Model for Sender<D> {
+    ghost use Rattle.rules.specs.Halves.{Half};
     ghost use Rattle.rules.specs.Sending.{Sending};
 
-    ghost Value = { Sending };
+    ghost Value = { Half Sending D.Number };
 
-    ghost view = { λ half. record { oldest = D.Number.Number.value half.oldest; window = half.window; packets = half.packets; last = half.last } };
+    ghost view = { λ half. record {
+      holds = record { oldest = D.Number.Number.value half.oldest; window = half.window; packets = half.packets; last = half.last };
+      oldest = half.oldest;
+    } };
 }
 
 impl<D: Direction> Sender<D> {
     /// A half that was not used yet.
     pub fn new() -> Sender<D>
-        ensures { result ≡ rule.new }
+        ensures { result.holds ≡ rule.new }
     {
         Sender {
             oldest: D::Number::from_octet(0),
@@ -50,7 +54,7 @@ impl<D: Direction> Sender<D> {
 
     /// The reference number `k` + 1 steps after the one last given under the priority, going round.
     fn rn_after(&self, q: u8, k: u8) -> u8
-        ensures { result ≡ rule.turn self.now q k }
+        ensures { result ≡ rule.turn self.now.holds q k }
     {
         let last = self.last.get(usize::from(q)).copied().unwrap_or(0);
         last.wrapping_add(1).wrapping_add(k) % 4
@@ -59,9 +63,9 @@ impl<D: Direction> Sender<D> {
     /// The first free reference number of a priority, from the one behind the last given on.
     fn free_rn(&self, q: u8) -> Option<u8>
         ensures { MatchOption result
-            (rule.passed self.now q ≡ 4)
-            (λ rn. (rule.passed self.now q < 4)
-            × (rn ≡ rule.turn self.now q (rule.passed self.now q))) }
+            (rule.passed self.now.holds q ≡ 4)
+            (λ rn. (rule.passed self.now.holds q < 4)
+            × (rn ≡ rule.turn self.now.holds q (rule.passed self.now.holds q))) }
     {
         (0..4)
             .map(|k| self.rn_after(q, k))
@@ -72,7 +76,7 @@ impl<D: Direction> Sender<D> {
     /// no or over 424 octets or the priority is above 3, and as `NoReference` if no reference number is free.
     pub fn accept(&mut self, q: u8, octets: &[u8], slot: u32) -> Result<u8, EndFault>
         ensures rule { Accepts q octets.now slot
-            self.old result self.new }
+            self.old.holds result self.new.holds }
         ensures kept { Kept result self.old self.new }
     {
         if octets.is_empty() || octets.len() > PACKET_ROOM || q > 3 {
@@ -86,15 +90,15 @@ impl<D: Direction> Sender<D> {
 
     /// The BDU to send.
     fn next(&self) -> Option<BduKey>
-        ensures { Chosen self.now result }
+        ensures { Chosen self.now.holds result }
     {
         self.packets.best()
     }
 
     /// What is sent next, after `count` data frames of this slot; nothing changes.
     pub fn choose(&self, count: u8) -> Result<ToSend<D::Number>, Pause>
-        ensures rule { Chooses D.Number.Number count self.now result }
-        ensures fits { Sendable self.now result }
+        ensures rule { Chooses D.Number.Number count self.now.holds result }
+        ensures fits { Sendable self.now.holds result }
     {
         let bdu = self.next().ok_or(Pause::Idle)?;
         if count >= frames_a_slot() {
@@ -114,14 +118,14 @@ impl<D: Direction> Sender<D> {
 
     /// The octets of the BDU of a header, as a part of its packet; none where there is no such BDU.
     pub fn payload(&self, header: BduHeader) -> &[u8]
-        ensures { result.now ≡ payload_of self.now header }
+        ensures { result.now ≡ payload_of self.now.holds header }
     {
         self.packets.part(BduKey::from(header))
     }
 
     /// What was chosen is sent in a slot: its number is on its way with its BDU.
     pub fn send(&mut self, chosen: ToSend<D::Number>, slot: u32)
-        ensures { self.new ≡ sent_by chosen slot self.old }
+        ensures { self.new.holds ≡ sent_by chosen slot self.old.holds }
     {
         let bdu = BduKey::from(chosen.header);
         let mark = Mark::OnItsWay {
@@ -134,7 +138,7 @@ impl<D: Direction> Sender<D> {
 
     /// A report as it bears on the window.
     fn hearing(&self, report: Report<D::Number>, slot: u32) -> Hearing
-        ensures { result ≡ hearing_of (D.Number.Number.value report.oldest) report.flags.octet slot self.now }
+        ensures { result ≡ hearing_of (D.Number.Number.value report.oldest) report.flags.octet slot self.now.holds }
     {
         Hearing {
             gap: self.oldest.distance(report.oldest),
@@ -147,7 +151,7 @@ impl<D: Direction> Sender<D> {
     /// number that is unused, returned or outside the window.
     pub fn foretell(&self, report: Report<D::Number>, slot: u32) -> Result<PacketSet, EndFault>
         ensures { Foretells (D.Number.Number.value report.oldest) (flagged report.flags.octet) slot
-            self.now result }
+            self.now.holds result }
     {
         let told = self.hearing(report, slot);
         told.outcome(&self.window, &self.packets)
@@ -157,9 +161,9 @@ impl<D: Direction> Sender<D> {
     /// nothing.
     pub fn hear(&mut self, report: Report<D::Number>, slot: u32) -> Result<PacketSet, EndFault>
         ensures answer { Foretells (D.Number.Number.value report.oldest) (flagged report.flags.octet) slot
-            self.old result }
+            self.old.holds result }
         ensures rule { Hears (D.Number.Number.value report.oldest) (flagged report.flags.octet) slot
-            self.old result self.new }
+            self.old.holds result self.new.holds }
         ensures kept { Kept result self.old self.new }
     {
         let hearing = self.hearing(report, slot);
@@ -175,7 +179,7 @@ impl<D: Direction> Sender<D> {
 
     /// The packets that a slot call of this slot would have expire; nothing changes.
     pub fn expiring(&self, slot: u32) -> PacketSet
-        ensures { places_in result ≡ rule.expired slot self.now }
+        ensures { places_in result ≡ rule.expired slot self.now.holds }
     {
         self.packets.held(|standing| standing.is_late(slot))
     }
@@ -183,8 +187,8 @@ impl<D: Direction> Sender<D> {
     /// The slot begins: packets that were accepted 74 slots ago or more expire, which are answered, and their numbers on
     /// their way lose their BDUs; reference numbers that have rested are free.
     pub fn slot(&mut self, slot: u32) -> PacketSet
-        ensures expired { places_in result ≡ rule.expired slot self.old }
-        ensures rule { self.new ≡ rule.slotted slot self.old }
+        ensures expired { places_in result ≡ rule.expired slot self.old.holds }
+        ensures rule { self.new.holds ≡ rule.slotted slot self.old.holds }
     {
         let expired = self.expiring(slot);
         self.window.leave(&self.packets, slot);
@@ -194,14 +198,14 @@ impl<D: Direction> Sender<D> {
 
     /// The packets that are pending.
     pub fn pending(&self) -> PacketSet
-        ensures { places_in result ≡ end.pending self.now }
+        ensures { places_in result ≡ end.pending self.now.holds }
     {
         self.packets.held(|standing| standing.is_pending())
     }
 
     /// What the half shows: A, and which of A+1 to A+8 are acknowledged.
     pub fn shows(&self) -> Shown<D::Number>
-        ensures { ShowsMarks self.now (D.Number.Number.value result.oldest) result.done }
+        ensures { ShowsMarks self.now.holds (D.Number.Number.value result.oldest) result.done }
     {
         Shown {
             oldest: self.oldest,

@@ -114,7 +114,9 @@ impl Window {
     pub(crate) fn leave(&mut self, packets: &Packets, slot: u32)
         ensures { self.new ≡ map (rule.left slot packets.now) self.old }
     {
-        self.marks = self.marks.map(|mark| left(mark, packets, slot));
+        for mark in &mut self.marks {
+            *mark = left(*mark, packets, slot);
+        }
     }
 }
 

@@ -7,13 +7,13 @@ use Rattle.half.proofs.examples.send_again.Goals as goal
 
 pub returns : goal.returns
 returns g c =
-    let S0 : Sending = c.new-sender.result in
-    let S1 : Sending = c.accept.new.self in
-    let S2 : Sending = c.go.new.sender in
-    let S3 : Sending = c.hear.new.self in
-    let S4 : Sending = c.go-early.new.sender in
-    let S5 : Sending = c.hear-2.new.self in
-    let S6 : Sending = c.go-late.new.sender in
+    let S0 : Sending = c.new-sender.result.holds in
+    let S1 : Sending = c.accept.new.self.holds in
+    let S2 : Sending = c.go.new.sender.holds in
+    let S3 : Sending = c.hear.new.self.holds in
+    let S4 : Sending = c.go-early.new.sender.holds in
+    let S5 : Sending = c.hear-2.new.self.holds in
+    let S6 : Sending = c.go-late.new.sender.holds in
     let R = g.D.Number.Number.value c.from_octet.result in
     let a = accepts 2 10 (65 ∷ []) S0 new S1 c.accept.result c.new-sender.ensures c.accept.ensures.rule refl in
     let b = went 0 10 S1 (loaded 10) S2 (gone 10) c.go.result (Answer.Sent 0 (key 0) false (65 ∷ [])) a.1 c.go.ensures (goes 10) in

@@ -12,4 +12,4 @@ returns-clause-count g c =
     let all = YieldsList-from_slice {s = c.iter.result} flags c.iter.ensures.rest in
     count_from_yields_List c.take_while.result c.count.result c.count.ensures.ran
     (YieldsList-from_take_while {s = c.take_while.result} _ (λ x. x) (YieldsList-at c.take_while.ensures.source all) c.take_while.ensures.closure c.take_while.ensures.done (λ x b q k. search (rules, tests)))
-    ∙ front_taken flags ∙ ap (λ V. front V.flags) c.self.view_is
+    ∙ front_taken flags ∙ ap (λ V. front V.holds.flags) c.self.view_is

@@ -6,4 +6,4 @@ use Rattle.receiver.proofs.receiver.Receiver.shifted.Goals as goal
 pub returns : goal.returns
 returns g c =
     made_by (λ i. get_or c.self.inside.flags (c.args.by + i) false) 8 c.from_fn.ensures.items (λ k y q l e. search rules)
-    ∙ ap (λ V. map (λ i. get_or V.flags (c.args.by + i) false) (range_with_len 0 8)) c.self.view_is
+    ∙ ap (λ V. map (λ i. get_or V.holds.flags (c.args.by + i) false) (range_with_len 0 8)) c.self.view_is

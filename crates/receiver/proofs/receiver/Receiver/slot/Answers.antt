@@ -11,4 +11,4 @@ returns g c =
     let before = c.self.inside in
     ap (half (g.D.Number.Number.value before.oldest) before.flags)
     (swept_map place_of nowhere (aged c.args.slot) before.places c.loop-place.place-index c.loop-place.place-items c.loop-place.invariant (omega arith))
-    ∙ ap (slot c.args.slot) c.self.view_is
+    ∙ ap (λ V. slot c.args.slot V.holds) c.self.view_is

@@ -1,15 +1,17 @@
-use Rattle.std.proofs.Common.{List, sym, refl, subst, rules, tests}
+use Rattle.std.proofs.Common.{◌≡◌, List, [], sym, refl, subst, rules, tests}
 use Rattle.std.proofs.lemmas.Iterator.{YieldsList-from_range, YieldsList-from_map}
 use Rattle.std.proofs.lemmas.Iterator.Consumers.{YieldsList-from_filter}
-use Rattle.rules.specs.Sending.{Outgoing}
-use Rattle.rules.specs.Choice.{nth, waiting, since}
+use Rattle.rules.specs.Sending.{Outgoing, Sending}
+use Rattle.rules.specs.Choice.{nth, waiting, since, Chosen}
 use Rattle.rules.proofs.Choice.{Leads, found}
+use Rattle.rules.proofs.SendAnswers.{chosen_is}
 use Rattle.sender.proofs.Ranking.{waiting_row, run_items, first_leads, goes_first, each_so, match_so}
 use Rattle.sender.proofs.packets.Packets.best.Goals as goal
 
 pub returns : goal.returns
-returns c = λ S e.
+returns c =
     let ps : List Outgoing = c.args.self.now in
+    let next : (S : Sending) → S.packets ≡ ps → Chosen S c.min_by_key.result = λ S e.
     let h = c.min_by_key.ensures.runs in
     found S c.min_by_key.result
     (subst (λ os. Leads os 128 c.min_by_key.result) (sym e)
@@ -20,4 +22,6 @@ returns c = λ S e.
     (λ m q.
     let best = q.1 (λ a r f k. search rules) in
     (q.0, λ k. each_so (h.0.at k) _ _ (λ x z. goes_first m x (since ps m) (since ps x) best.0 z.0 (let call = best.1 in search (rules, call)) (let call = z.1 in search (rules, call)) z.2) (best.2 k)))
-    h.3)))
+    h.3))) in
+    let S : Sending = record { oldest = 0; window = []; packets = ps; last = [] } in
+    record { next = next; row = chosen_is S c.min_by_key.result (next S refl) }

@@ -1,4 +1,4 @@
-use Rattle.std.proofs.Common.{◌≡◌, Ok, sym, subst}
+use Rattle.std.proofs.Common.{◌≡◌, Ok, sym, ap, subst}
 use Rattle.rules.specs.Sending.{Sending}
 use Rattle.sender.specs.Senders.{hearing_of}
 use Rattle.sender.proofs.Answering.{foretold, heard_is}
@@ -14,8 +14,8 @@ returns g c =
       packets = c.self.inside.packets;
       last = c.self.inside.last;
     } in
-    let hearing = subst (λ x. c.hearing-hearing.result ≡ hearing_of R octet c.args.slot x) (sym c.self.view_is) c.hearing-hearing.ensures in
-    rw (← c.self.view_is)
+    let hearing = subst (λ x. c.hearing-hearing.result ≡ hearing_of R octet c.args.slot x) (sym (ap (λ V. V.holds) c.self.view_is)) c.hearing-hearing.ensures in
+    rw (← ap (λ V. V.holds) c.self.view_is)
     (record {
       answer = foretold c.hearing-hearing.result R octet c.args.slot S (Ok c.in_ok-confirmed.confirmed) hearing c.in_ok-confirmed.ensures;
       rule =

@@ -1,6 +1,5 @@
 use Rattle.std.proofs.Common.{sym, ap}
-use Rattle.rules.specs.Sending.{Sending}
 use Rattle.sender.proofs.sender.Sender.next.Goals as goal
 
 pub returns : goal.returns
-returns g c = c.best.ensures c.args.self.now (sym (ap (λ (S : Sending). S.packets) c.self.view_is))
+returns g c = c.best.ensures.next c.args.self.now.holds (sym (ap (λ V. V.holds.packets) c.self.view_is))

@@ -6,5 +6,5 @@ use Rattle.sender.proofs.sender.Sender.pending.Goals as goal
 
 pub returns : goal.returns
 returns g c =
-    rw (← c.self.view_is)
+    rw (← ap (λ V. V.holds) c.self.view_is)
     (ap (marked 0) (c.held.ensures (is_pending) (λ t r p. search rules)) ∙ marked_map (λ o. is_pending o.standing) 0 c.self.inside.packets)
