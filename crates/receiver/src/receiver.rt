@@ -145,7 +145,8 @@ impl<D: Direction> Receiver<D> {
 
     /// What a report says now.
     pub fn report(&self) -> Report<D::Number>
-        ensures { Says self.now.holds (D.Number.Number.value result.oldest) result.flags.octet }
+        ensures says { Says self.now.holds (D.Number.Number.value result.oldest) result.flags.octet }
+        ensures stored { result.oldest ≡ self.now.oldest }
     {
         Report {
             oldest: self.oldest,
@@ -155,7 +156,8 @@ impl<D: Direction> Receiver<D> {
 
     /// What the half shows: R, and which of R+1 to R+8 are received.
     pub fn shows(&self) -> Shown<D::Number>
-        ensures { ShowsFlags self.now.holds (D.Number.Number.value result.oldest) result.done }
+        ensures shows { ShowsFlags self.now.holds (D.Number.Number.value result.oldest) result.done }
+        ensures stored { result.oldest ≡ self.now.oldest }
     {
         Shown {
             oldest: self.oldest,

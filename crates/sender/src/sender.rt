@@ -205,7 +205,8 @@ impl<D: Direction> Sender<D> {
 
     /// What the half shows: A, and which of A+1 to A+8 are acknowledged.
     pub fn shows(&self) -> Shown<D::Number>
-        ensures { ShowsMarks self.now.holds (D.Number.Number.value result.oldest) result.done }
+        ensures shows { ShowsMarks self.now.holds (D.Number.Number.value result.oldest) result.done }
+        ensures stored { result.oldest ≡ self.now.oldest }
     {
         Shown {
             oldest: self.oldest,

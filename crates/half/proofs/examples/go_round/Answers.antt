@@ -34,4 +34,4 @@ returns g c =
     let b = takes (g.D.Number.Number.value c.from_octet-3.result) 255 10 (bdu_of c.short-3.result) short c.take-2.new.self.holds ahead
     c.take-3.new.self.holds (clean 1) c.take-2.new.buffer c.take-3.new.buffer c.take-3.result 2 0 (65 ∷ []) a c.from_octet-3.ensures
     (is_short c.short-3.result c.short-3.ensures.header c.short-3.ensures.payload) c.take-3.ensures.rule (in_room ahead 255 (length c.take-2.new.buffer) same refl) refl in
-    c.octet.ensures ∙ ap (λ x. x.0) c.report.ensures.said ∙ ap (λ V. V.oldest) b
+    c.octet.ensures ∙ ap (λ x. x.0) c.report.ensures.says.said ∙ ap (λ V. V.oldest) b
